@@ -1,0 +1,47 @@
+//! What a call of `top` answers.
+
+ghost use Rattle.std.specs.Prelude.{◌≡◌, []};
+
+use pl_base::{Choice, Seq};
+use std::alloc::Global;
+
+/// The exit status: 0 the script ended, 2 usage, 3 a read fault, 4 a write fault, 5 no program, 9 want
+/// of memory.
+#[derive(Clone, Copy, Debug, PartialEq, Eq)]
+pub struct Status(pub u8);
+
+/// The choices of a run, under which it can be repeated.
+#[derive(Debug, Drop)]
+pub struct Journal {
+    pub version: u32,
+    pub workers: u32,
+    pub turns: u64,
+    pub entries: Seq<Choice>,
+}
+
+/// How a call ended: the status, the choices, and the bytes of the script that was read. Of a script of
+/// over 1,000,000 bytes these are the first 1,000,001; where none was read there are none.
+#[derive(Debug, Drop)]
+pub struct Ended {
+    pub status: Status,
+    pub journal: Journal,
+    pub script: Seq<u8>,
+}
+
+/// An end with no choices, under the default workers and turns.
+pub fn end_with(alloc: Global, status: u8, script: Seq<u8>) -> Ended
+    ensures status { result.status.0 ≡ status }
+    ensures journal { result.journal ≡ record { version = 1; workers = 4; turns = 100000000; entries = [] } }
+    ensures script { result.script ≡ script }
+{
+    Ended {
+        status: Status(status),
+        journal: Journal {
+            version: 1,
+            workers: 4,
+            turns: 100_000_000,
+            entries: Seq::empty(alloc),
+        },
+        script,
+    }
+}
