@@ -20,3 +20,6 @@ mod token;
 pub use law::one_answer;
 pub use lexer::lex;
 pub use token::{Kind, LexFault, LexKind, Token};
+
+#[cfg(test)]
+mod tests;

@@ -202,11 +202,12 @@ impl Before {
     fn close(&mut self, byte: u8)
         ensures { self.new ≡ spec.closed byte self.old }
     {
-        self.token(if byte == b'}' {
+        let last = if byte == b'}' {
             Last::Named
         } else {
             Last::Operand
-        });
+        };
+        self.token(last);
         self.brackets.close();
     }
 
