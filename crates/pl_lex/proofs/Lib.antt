@@ -6,3 +6,4 @@ pub mod Sound
 pub mod Runs
 pub mod Steps
 pub mod Laws
+pub mod Ranges

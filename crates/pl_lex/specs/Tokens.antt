@@ -1,5 +1,5 @@
 -- The tokens of a source, and the fault that it may have in their place.
-use Rattle.std.specs.Prelude.{◌≡◌, ℕ, ◌+◌, ◌||◌, ◌==◌, if◌then◌else◌, List, [], ◌∷◌, ◌++◌, length, drop, nat_eq, Option, Some, None}
+use Rattle.std.specs.Prelude.{◌≡◌, ℕ, ◌+◌, ◌-◌, ◌<◌, ◌≤◌, Bool, true, false, ◌||◌, ◌==◌, if◌then◌else◌, List, [], ◌∷◌, ◌++◌, length, drop, take, nat_eq, Option, Some, None}
 use Rattle.std.specs.List.{starts_with}
 use Rattle.pl_base.specs.declared.errors.Place.{Place}
 use Rattle.pl_lex.specs.declared.state.Part.{Part}
@@ -9,8 +9,12 @@ use Rattle.pl_lex.specs.declared.token.Token.{Token}
 use Rattle.pl_lex.specs.declared.token.Kind.{Kind}
 use Rattle.pl_lex.specs.declared.token.Kind.TheVariants as kind
 use Rattle.pl_lex.specs.declared.token.LexKind.{LexKind}
+use Rattle.pl_lex.specs.declared.bytes.Class.{Class}
+use Rattle.pl_lex.specs.declared.bytes.Class.TheVariants.{Letter, Single, Double}
+use Rattle.pl_lex.specs.Bytes.{class_of, is_part, is_digit, Each}
+use Rattle.pl_lex.specs.Keywords.{is_keyword}
 use Rattle.pl_lex.specs.State.{start, in_block, behind}
-use Rattle.pl_lex.specs.Pieces.{Piece, clean, fault, bytes_of, Cut}
+use Rattle.pl_lex.specs.Pieces.{Piece, clean, fault, bytes_of, Cut, in_range, IsClosed}
 
 -- the kind of the token that a piece is, if it is one
 abbrev pub kind_of : Part → Before → Option Kind
@@ -66,3 +70,40 @@ pub record Faults (source : List ℕ) (kind : LexKind) (place : Place) : Type 0 
   pub cut : Cut start pieces (fault kind first rest)
   pub spells : bytes_of pieces (fault kind first rest) ≡ drop (mark_len source) source
   pub stands : past (first_place source) (bytes_of pieces clean) ≡ place
+
+-- ---- what a token's bytes are
+
+-- a name is a letter and what goes on in a name, and no keyword
+abbrev pub IsName : List ℕ → Type 0
+IsName [] = ⊥
+IsName (c ∷ cs) = (class_of c ≡ Letter) × Each is_part cs × (is_keyword (c ∷ cs) ≡ false)
+
+-- a literal is digits, and at most the greatest int64
+abbrev pub IsLiteral : List ℕ → Type 0
+IsLiteral [] = ⊥
+IsLiteral (c ∷ cs) = Each is_digit (c ∷ cs) × (in_range (c ∷ cs) ≡ true)
+
+abbrev pub quote_class : Class → Bool
+quote_class Single = true
+quote_class Double = true
+quote_class _ = false
+
+-- a text is a quote, what stands between, and the quote
+abbrev pub IsText : List ℕ → Type 0
+IsText [] = ⊥
+IsText (c ∷ cs) = (quote_class (class_of c) ≡ true) × IsClosed c cs
+
+-- bytes of a token of this kind
+abbrev pub IsTextOf : Kind → List ℕ → Type 0
+IsTextOf kind.Name bytes = IsName bytes
+IsTextOf kind.Keyword bytes = is_keyword bytes ≡ true
+IsTextOf kind.Literal bytes = IsLiteral bytes
+IsTextOf kind.Chars bytes = IsText bytes
+IsTextOf kind.Sign bytes = length bytes ≤ 2
+IsTextOf kind.LineEnd bytes = length bytes ≤ 2
+
+-- a token is a range of the source, isn't empty, and has bytes of its kind
+pub record IsTokenOf (source : List ℕ) (t : Token) : Type 0 where
+  pub filled : t.from < t.to
+  pub within : t.to ≤ length source
+  pub bytes : IsTextOf t.kind (take (t.to - t.from) (drop t.from source))

@@ -12,8 +12,8 @@ use crate::place::{mark_len, place_at};
 use crate::scan::{Found, head};
 use crate::state::{Before, Part};
 use crate::token::{Kind, LexFault, LexKind, Token};
-use pl_base::{NoMemory, Or};
-use std::alloc::Global;
+use pl_base::Or;
+use std::alloc::{AllocError, Global};
 
 /// The first fault, before its place is known.
 #[derive(Clone, Copy, Debug)]
@@ -39,7 +39,7 @@ fn kind_of(part: Part, before: &Before) -> Option<Kind>
 }
 
 /// Adds the token that a piece is, if it is one.
-fn tell(tokens: &mut Vec<Token>, found: Found, at: usize, before: &Before) -> Result<(), NoMemory>
+fn tell(tokens: &mut Vec<Token>, found: Found, at: usize, before: &Before) -> Result<(), AllocError>
     requires { at + found.more + 1 < 2 ^ 32 }
     ensures { OnOk result (tokens.new.items ≡ scan_spec.told tokens.old.items found at before.now) }
 {

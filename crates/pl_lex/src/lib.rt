@@ -17,7 +17,7 @@ mod scan;
 mod state;
 mod token;
 
-pub use law::one_answer;
+pub use law::{one_answer, token_ranges};
 pub use lexer::lex;
 pub use token::{Kind, LexFault, LexKind, Token};
 

@@ -6,8 +6,7 @@ ghost use Rattle.pl_lex.specs.Bytes as bytes_spec;
 
 use crate::bytes::{Class, begins, class_of};
 use crate::keywords::is_end;
-use pl_base::NoMemory;
-use std::alloc::Global;
+use std::alloc::{AllocError, Global};
 use std::marker::Model;
 
 /// An open bracket.
@@ -62,7 +61,7 @@ impl Brackets {
         }
     }
 
-    fn open(&mut self, bracket: Bracket) -> Result<(), NoMemory>
+    fn open(&mut self, bracket: Bracket) -> Result<(), AllocError>
         ensures { OnOk result (self.new ≡ bracket ∷ self.old) }
     {
         self.open.push(bracket)?;
@@ -192,7 +191,7 @@ impl Before {
         self.token(if is_index { Last::Operand } else { Last::Other });
     }
 
-    fn open(&mut self, bracket: Bracket) -> Result<(), NoMemory>
+    fn open(&mut self, bracket: Bracket) -> Result<(), AllocError>
         ensures { OnOk result (self.new ≡ spec.opened bracket self.old) }
     {
         self.token(Last::Other);
@@ -212,7 +211,7 @@ impl Before {
     }
 
     #[tactic(auto, unfolding(crate::specs::State::signed))]
-    fn sign(&mut self, text: &[u8]) -> Result<(), NoMemory>
+    fn sign(&mut self, text: &[u8]) -> Result<(), AllocError>
         requires { 0 < length text.now }
         ensures blocks { OnOk result (self.new.blocks ≡ self.old.blocks) }
         ensures passed { OnOk result (self.new ≡ spec.signed (bytes_spec.class_of (slice_index text.now 0)) text.now self.old) }
@@ -242,7 +241,7 @@ impl Before {
 
     /// Goes behind a piece, whose bytes these are.
     #[tactic(auto, unfolding(crate::specs::State::behind))]
-    pub fn pass(&mut self, part: Part, text: &[u8]) -> Result<(), NoMemory>
+    pub fn pass(&mut self, part: Part, text: &[u8]) -> Result<(), AllocError>
         requires bytes { 0 < length text.now }
         requires room { self.old.blocks + 1 < 2 ^ 64 }
         ensures passed { OnOk result (self.new ≡ spec.behind part text.now self.old) }
