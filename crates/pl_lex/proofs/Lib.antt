@@ -1,0 +1,9 @@
+pub mod LineEnds
+pub mod Numbers
+pub mod Texts
+pub mod Finds
+pub mod Sound
+pub mod Runs
+pub mod Steps
+pub mod Laws
+pub mod Ranges
