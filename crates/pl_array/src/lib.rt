@@ -1,0 +1,14 @@
+//! Arrays: their values, how they are kept, and what the operators make of them.
+//!
+//! An array has a class, rows, columns and its cells by columns; contracts see that and nothing of
+//! how it is kept. What is promised: each call gives the array that the definitions of `specs/` say, or
+//! the refusal that they say, in their order; and an array that a call can't change after all is as
+//! it was.
+#![tactic(auto)]
+
+mod arr;
+mod class;
+mod held;
+
+pub use arr::Arr;
+pub use class::{Class, Shape};
