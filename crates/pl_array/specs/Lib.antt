@@ -1,2 +1,3 @@
 pub mod Arrays
 pub mod Inner
+pub mod Cellwise

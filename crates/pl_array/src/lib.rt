@@ -8,7 +8,13 @@
 
 mod arr;
 mod class;
+mod fitting;
 mod held;
+mod ops;
+mod refusals;
+mod rules;
 
 pub use arr::Arr;
 pub use class::{Class, Shape};
+pub use fitting::fit;
+pub use ops::{Op1, Op2};

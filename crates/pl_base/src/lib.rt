@@ -21,7 +21,7 @@ pub use gate::{Free, Gate};
 pub use memory::{NoMemory, Or};
 pub use mode::Mode;
 pub use numbers::{
-    NegativePower, add_sat, div_round, mod_floor, mul_sat, neg_sat, pow_sat, power_within,
+    NegativePower, add_sat, div_round, mod_floor, mul_sat, neg_sat, pow_sat, power, power_within,
     rem_zero, sub_sat,
 };
 pub use seq::Seq;

@@ -142,7 +142,8 @@ pub fn pow_sat(a: i64, b: i64) -> Result<i64, NegativePower>
     Ok(power(a, b.unsigned_abs()))
 }
 
-fn power(a: i64, e: u64) -> i64
+/// The exact power, clamped.
+pub fn power(a: i64, e: u64) -> i64
     ensures { result ≡ clamp (int_pow a e) }
 {
     match power_within(a, e) {
