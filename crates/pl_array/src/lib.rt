@@ -11,8 +11,10 @@ mod class;
 mod fitting;
 mod held;
 mod ops;
+mod passes;
 mod refusals;
 mod rules;
+mod searches;
 
 pub use arr::Arr;
 pub use class::{Class, Shape};
