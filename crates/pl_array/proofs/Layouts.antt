@@ -1,5 +1,5 @@
 -- Operands of the result's shape and single cells: their cells stand as the definition of a pass reads them.
-use Rattle.std.proofs.Common.{◌≡◌, ℕ, zero, suc, ◌+◌, ◌*◌, ◌/◌, ◌%◌, ◌<◌, min, ℤ, pos, Bool, ◌||◌, List, [], ◌∷◌, map, length, get_or, arith, refl, ap, ap₂, sym, ◌∙◌}
+use Rattle.std.proofs.Common.{◌≡◌, ℕ, zero, suc, ◌*◌, ◌/◌, ◌%◌, ◌<◌, ℤ, pos, Bool, ◌||◌, List, [], ◌∷◌, map, length, get_or, arith, refl, ap, ap₂, sym, ◌∙◌}
 use Rattle.std.specs.List.{range_with_len, zip, list_any}
 use Rattle.std.proofs.lemmas.List.{length-map, get_or-map}
 use Rattle.std.proofs.lemmas.List.FromFn.{fill_by_all}
@@ -39,7 +39,7 @@ whole_cell a rows cols k whole h =
 whole_length : (a : Array) (rows cols : ℕ) → IsWhole a rows cols → length a.cells ≡ rows * cols
 whole_length a rows cols whole = whole.valid.count ∙ ap₂ (λ (m n : ℕ). m * n) whole.row whole.col
 
-one_extent : (m n : ℕ) → m * n ≡ 1 → m ≡ 1
+pub one_extent : (m n : ℕ) → m * n ≡ 1 → m ≡ 1
 one_extent zero n h = absurd (omega arith)
 one_extent (suc zero) n h = refl
 one_extent (suc (suc m)) zero h = absurd (omega arith)

@@ -1,2 +1,4 @@
 mod Writes
 mod Layouts
+mod Combined
+mod Singles

@@ -1,5 +1,5 @@
 -- What the elementwise operators answer: the shapes' refusals, then those of the cells, then a number for each cell.
-use Rattle.std.specs.Prelude.{◌≡◌, ℕ, ◌*◌, ◌/◌, ◌%◌, ◌==◌, ℤ, pos, ◌+ℤ◌, ◌-ℤ◌, ◌*ℤ◌, neg_ℤ, unsigned_abs, int_lt, Bool, true, false, not, ◌&&◌, ◌||◌, List, map, Option, Some, None, Result, Ok, Err, if◌then◌else◌, nat_le}
+use Rattle.std.specs.Prelude.{◌≡◌, ℕ, ◌*◌, ◌/◌, ◌%◌, ◌==◌, ℤ, pos, ◌+ℤ◌, ◌-ℤ◌, ◌*ℤ◌, neg_ℤ, unsigned_abs, int_lt, Bool, true, false, not, ◌&&◌, ◌||◌, ◌≤◌, List, [], ◌∷◌, map, Option, Some, None, Result, Ok, Err, if◌then◌else◌, nat_le}
 use Rattle.std.specs.Int.{int_pow, int_min, int_max, int_signum}
 use Rattle.std.specs.List.{range_with_len, list_any}
 use Rattle.std.specs.Ordering.{int_eq}
@@ -155,3 +155,17 @@ abbrev pub map1_of : Mode → Op1 → Array → Result Array ErrKind
 map1_of mode op a =
     if list_any (overflows1 mode op) a.cells then Err Overflow else
     Ok (record { class = class_by1 op; rows = a.rows; cols = a.cols; cells = map (number1 op) a.cells })
+
+-- an operator on two single numbers
+abbrev pub single_by : Mode → Op2 → ℤ → ℤ → Result Array ErrKind
+single_by mode op x y =
+    if negative_power op x y then Err NegativePower else
+    (if overflows mode op x y then Err Overflow else
+    Ok (record { class = class_by op; rows = 1; cols = 1; cells = number op x y ∷ [] }))
+
+-- the operands fit this shape, and it is within the limits
+pub record Fits (a b : Array) (s : Shape) : Type 0 where
+  pub shape : fitted (shape_of a) (shape_of b) ≡ Some s
+  pub limit : s.rows * s.cols ≤ most
+  pub row_limit : s.rows ≤ most
+  pub col_limit : s.cols ≤ most

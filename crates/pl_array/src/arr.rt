@@ -115,7 +115,8 @@ impl Arr {
     }
 
     pub fn shape(&self) -> Shape
-        ensures { result ≡ record { rows = self.now.rows; cols = self.now.cols } }
+        ensures shape { result ≡ record { rows = self.now.rows; cols = self.now.cols } }
+        ensures valid { IsValid self.now }
     {
         Shape {
             rows: self.rows,

@@ -8,6 +8,7 @@
 
 mod arr;
 mod class;
+mod elementwise;
 mod fitting;
 mod held;
 mod ops;
@@ -18,5 +19,6 @@ mod searches;
 
 pub use arr::Arr;
 pub use class::{Class, Shape};
+pub use elementwise::{map2, map2_in};
 pub use fitting::fit;
 pub use ops::{Op1, Op2};

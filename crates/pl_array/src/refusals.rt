@@ -17,6 +17,7 @@ pub(crate) trait Test {
 }
 
 /// An exponent below 0.
+#[derive(Clone, Copy)]
 pub(crate) struct Negative;
 
 impl Test for Negative {
@@ -28,6 +29,7 @@ impl Test for Negative {
 }
 
 /// What the strict mode refuses.
+#[derive(Clone, Copy)]
 pub(crate) struct Strictly {
     pub(crate) op: Op2,
 }
@@ -50,5 +52,25 @@ fn past_limits(op: Op2, x: i64, y: i64) -> bool
         Op2::Div => y == 0 || (x == i64::MIN && y == -1),
         Op2::Pow => power_within(x, y.unsigned_abs()).is_none(),
         _ => false,
+    }
+}
+
+/// Whether the exponent of one cell is below 0.
+pub(crate) fn is_negative_power(op: Op2, x: i64, y: i64) -> bool
+    ensures { result ≡ negative_power op x y }
+{
+    match op {
+        Op2::Pow => Negative.holds(x, y),
+        _ => false,
+    }
+}
+
+/// Whether one cell overflows in a mode.
+pub(crate) fn is_overflow(mode: Mode, op: Op2, x: i64, y: i64) -> bool
+    ensures { result ≡ overflows mode op x y }
+{
+    match mode {
+        Mode::Saturate => false,
+        Mode::Strict => past_limits(op, x, y),
     }
 }

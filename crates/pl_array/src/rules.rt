@@ -17,6 +17,7 @@ pub(crate) trait Rule {
         ensures { result ≡ number (op self.now) x y };
 }
 
+#[derive(Clone, Copy)]
 pub(crate) struct Add;
 
 impl Rule for Add {
@@ -27,6 +28,7 @@ impl Rule for Add {
     }
 }
 
+#[derive(Clone, Copy)]
 pub(crate) struct Sub;
 
 impl Rule for Sub {
@@ -37,6 +39,7 @@ impl Rule for Sub {
     }
 }
 
+#[derive(Clone, Copy)]
 pub(crate) struct Mul;
 
 impl Rule for Mul {
@@ -47,6 +50,7 @@ impl Rule for Mul {
     }
 }
 
+#[derive(Clone, Copy)]
 pub(crate) struct Div;
 
 impl Rule for Div {
@@ -57,6 +61,7 @@ impl Rule for Div {
     }
 }
 
+#[derive(Clone, Copy)]
 pub(crate) struct Pow;
 
 impl Rule for Pow {
@@ -67,6 +72,7 @@ impl Rule for Pow {
     }
 }
 
+#[derive(Clone, Copy)]
 pub(crate) struct Mod;
 
 impl Rule for Mod {
@@ -77,6 +83,7 @@ impl Rule for Mod {
     }
 }
 
+#[derive(Clone, Copy)]
 pub(crate) struct Rem;
 
 impl Rule for Rem {
@@ -87,6 +94,7 @@ impl Rule for Rem {
     }
 }
 
+#[derive(Clone, Copy)]
 pub(crate) struct Min;
 
 impl Rule for Min {
@@ -97,6 +105,7 @@ impl Rule for Min {
     }
 }
 
+#[derive(Clone, Copy)]
 pub(crate) struct Max;
 
 impl Rule for Max {
@@ -107,6 +116,7 @@ impl Rule for Max {
     }
 }
 
+#[derive(Clone, Copy)]
 pub(crate) struct Lt;
 
 impl Rule for Lt {
@@ -117,6 +127,7 @@ impl Rule for Lt {
     }
 }
 
+#[derive(Clone, Copy)]
 pub(crate) struct Le;
 
 impl Rule for Le {
@@ -127,6 +138,7 @@ impl Rule for Le {
     }
 }
 
+#[derive(Clone, Copy)]
 pub(crate) struct Gt;
 
 impl Rule for Gt {
@@ -137,6 +149,7 @@ impl Rule for Gt {
     }
 }
 
+#[derive(Clone, Copy)]
 pub(crate) struct Ge;
 
 impl Rule for Ge {
@@ -147,6 +160,7 @@ impl Rule for Ge {
     }
 }
 
+#[derive(Clone, Copy)]
 pub(crate) struct Eq;
 
 impl Rule for Eq {
@@ -157,6 +171,7 @@ impl Rule for Eq {
     }
 }
 
+#[derive(Clone, Copy)]
 pub(crate) struct Ne;
 
 impl Rule for Ne {
@@ -167,6 +182,7 @@ impl Rule for Ne {
     }
 }
 
+#[derive(Clone, Copy)]
 pub(crate) struct And;
 
 impl Rule for And {
@@ -177,6 +193,7 @@ impl Rule for And {
     }
 }
 
+#[derive(Clone, Copy)]
 pub(crate) struct Or;
 
 impl Rule for Or {
@@ -187,6 +204,7 @@ impl Rule for Or {
     }
 }
 
+#[derive(Clone, Copy)]
 pub(crate) struct Xor;
 
 impl Rule for Xor {

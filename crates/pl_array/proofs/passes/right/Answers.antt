@@ -1,6 +1,5 @@
 -- The right operand's one cell stands for all.
-use Rattle.std.proofs.Common.{◌≡◌, ℤ, pos, List, map, get_or, subst, ap, ap₂, sym, ◌∙◌, IfOk, FitsSigned, w64, rules}
-use Rattle.std.specs.List.{zip}
+use Rattle.std.proofs.Common.{◌≡◌, ℤ, pos, List, map, get_or, subst, ap, ap₂, ◌∙◌, IfOk, FitsSigned, w64, rules}
 use Rattle.std.proofs.lemmas.Int.{to_z-of_z}
 use Rattle.pl_array.specs.Cellwise.{number}
 use Rattle.pl_array.proofs.Layouts.{IsWhole, IsOne, right_is}

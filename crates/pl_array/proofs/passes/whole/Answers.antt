@@ -1,9 +1,8 @@
 -- The pairs of cells are those of the definition.
-use Rattle.std.proofs.Common.{◌≡◌, ℤ, pos, List, map, get_or, subst, ap, ap₂, sym, ◌∙◌, IfOk, arith}
+use Rattle.std.proofs.Common.{◌≡◌, ℤ, List, map, subst, ap₂, ◌∙◌, IfOk}
 use Rattle.std.specs.List.{zip}
-use Rattle.std.proofs.lemmas.List.{get_or_read}
 use Rattle.pl_array.specs.Cellwise.{number}
-use Rattle.pl_array.proofs.Layouts.{IsWhole, IsOne, pairs_are}
+use Rattle.pl_array.proofs.Layouts.{IsWhole, pairs_are}
 use Rattle.pl_array.proofs.passes.whole.Goals as goal
 
 pub returns : goal.returns

@@ -1,6 +1,6 @@
 -- The left operand's one cell stands for all.
-use Rattle.std.proofs.Common.{◌≡◌, ℤ, pos, Bool, List, get_or, ap, ap₂, ◌∙◌, FitsSigned, w64, rules}
-use Rattle.std.specs.List.{zip, list_any}
+use Rattle.std.proofs.Common.{ℤ, pos, List, get_or, ap, ap₂, ◌∙◌, FitsSigned, w64, rules}
+use Rattle.std.specs.List.{list_any}
 use Rattle.std.proofs.lemmas.Int.{to_z-of_z}
 use Rattle.pl_array.proofs.Layouts.{IsWhole, IsOne, some_left_is}
 use Rattle.pl_array.proofs.searches.some_left.Goals as goal

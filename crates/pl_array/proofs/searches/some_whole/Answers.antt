@@ -1,8 +1,7 @@
 -- The pairs of cells are those of the definition.
-use Rattle.std.proofs.Common.{◌≡◌, ℤ, pos, Bool, List, get_or, ap, ap₂, ◌∙◌, FitsSigned, w64, rules}
+use Rattle.std.proofs.Common.{ℤ, List, ap₂, ◌∙◌}
 use Rattle.std.specs.List.{zip, list_any}
-use Rattle.std.proofs.lemmas.Int.{to_z-of_z}
-use Rattle.pl_array.proofs.Layouts.{IsWhole, IsOne, some_pair_is}
+use Rattle.pl_array.proofs.Layouts.{IsWhole, some_pair_is}
 use Rattle.pl_array.proofs.searches.some_whole.Goals as goal
 
 pub returns : goal.returns
