@@ -1,5 +1,5 @@
 -- The parts of the answer for two operands that fit.
-use Rattle.std.proofs.Common.{◌≡◌, ℕ, ◌*◌, ℤ, int_lt, Bool, true, false, not, ◌&&◌, ◌||◌, List, [], ◌∷◌, length, arith, refl, ap, ◌∙◌}
+use Rattle.std.proofs.Common.{◌≡◌, ℕ, ◌*◌, ℤ, int_lt, Bool, true, false, not, ◌&&◌, ◌||◌, List, [], ◌∷◌, map, length, Ok, arith, refl, ap, ◌∙◌}
 use Rattle.std.specs.List.{All, range_with_len, list_any}
 use Rattle.std.specs.Ordering.{int_eq}
 use Rattle.std.proofs.lemmas.Int.{ints}
@@ -8,12 +8,15 @@ use Rattle.std.proofs.lemmas.List.Elements.{All-map, All-same}
 use Rattle.pl_base.specs.Numbers.{clamp}
 use Rattle.pl_array.specs.declared.class.Class.TheVariants.{Logical}
 use Rattle.pl_array.specs.declared.class.Shape.{Shape}
+use Rattle.pl_array.specs.declared.ops.Op1.{Op1}
+use Rattle.pl_array.specs.declared.ops.Op1.TheVariants.{Not}
+use Rattle.pl_base.specs.declared.mode.Mode.TheVariants.{Saturate}
 use Rattle.pl_array.specs.declared.ops.Op2.{Op2}
 use Rattle.pl_array.specs.declared.ops.Op2.TheVariants.{Pow, Lt, Le, Gt, Ge, Eq, Ne, And, Or, Xor}
 use Rattle.pl_array.specs.Arrays.{Array, IsCell}
-use Rattle.pl_array.specs.Cellwise.{operand, truth, is_true, number, negative_power, some_cell, each_cell, class_by}
+use Rattle.pl_array.specs.Cellwise.{operand, truth, is_true, number, negative_power, some_cell, each_cell, class_by, number1, class_by1, mapped1, map1_of}
 
-pub none : (xs : List ℕ) → false ≡ list_any (λ k. false) xs
+pub none : {X : Type 0} (xs : List X) → false ≡ list_any (λ x. false) xs
 none [] = refl
 none (x ∷ xs) = none xs
 
@@ -44,3 +47,13 @@ pub cells_class : (op : Op2) (a b : Array) (s : Shape) (xs : List ℤ) → xs �
 cells_class op a b s xs e =
     All-same (IsCell (class_by op)) xs (each_cell (number op) a b s) e
     (All-map (IsCell (class_by op)) (λ k. number op (operand a s.rows k) (operand b s.rows k)) (range_with_len 0 (s.rows * s.cols)) (λ k d h. number_is_cell op _ _))
+
+pub saturated1 : (op : Op1) (a : Array) → Ok (mapped1 op a) ≡ map1_of Saturate op a
+saturated1 op a = rw (← none a.cells) refl
+
+number1_is_cell : (op : Op1) (x : ℤ) → IsCell (class_by1 op) (number1 op x)
+number1_is_cell Not x = truth_is_cell (not (is_true x))
+number1_is_cell op x = tt
+
+pub cells_class1 : (op : Op1) (ys xs : List ℤ) → xs ≡ map (number1 op) ys → All (IsCell (class_by1 op)) xs
+cells_class1 op ys xs e = All-same (IsCell (class_by1 op)) xs (map (number1 op) ys) e (All-map (IsCell (class_by1 op)) (number1 op) ys (λ k d h. number1_is_cell op _))

@@ -150,11 +150,13 @@ abbrev pub class_by1 : Op1 → Class
 class_by1 Not = Logical
 class_by1 op = Int
 
+-- the number for each cell
+abbrev pub mapped1 : Op1 → Array → Array
+mapped1 op a = record { class = class_by1 op; rows = a.rows; cols = a.cols; cells = map (number1 op) a.cells }
+
 -- an operator on one array
 abbrev pub map1_of : Mode → Op1 → Array → Result Array ErrKind
-map1_of mode op a =
-    if list_any (overflows1 mode op) a.cells then Err Overflow else
-    Ok (record { class = class_by1 op; rows = a.rows; cols = a.cols; cells = map (number1 op) a.cells })
+map1_of mode op a = if list_any (overflows1 mode op) a.cells then Err Overflow else Ok (mapped1 op a)
 
 -- an operator on two single numbers
 abbrev pub single_by : Mode → Op2 → ℤ → ℤ → Result Array ErrKind

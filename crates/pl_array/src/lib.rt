@@ -16,9 +16,11 @@ mod passes;
 mod refusals;
 mod rules;
 mod searches;
+mod unary;
 
 pub use arr::Arr;
 pub use class::{Class, Shape};
 pub use elementwise::{map2, map2_in};
 pub use fitting::fit;
 pub use ops::{Op1, Op2};
+pub use unary::{map1, map1_in};
