@@ -23,7 +23,7 @@ pub record IsOne (a : Array) : Type 0 where
 spread_within : (n i : ℕ) → i < n → spread n i ≡ i
 spread_within n i h = grind (arith, nat_tests)
 
-some_rows : (rows cols k : ℕ) → k < rows * cols → 0 < rows
+pub some_rows : (rows cols k : ℕ) → k < rows * cols → 0 < rows
 some_rows zero cols k h = absurd (omega arith)
 some_rows (suc rows) cols k h = omega arith
 

@@ -2,3 +2,4 @@ mod Writes
 mod Layouts
 mod Combined
 mod Singles
+mod Kept

@@ -141,6 +141,14 @@ impl Arr {
         self.cells.items()[c as usize * self.rows as usize + r as usize]
     }
 
+    /// The number at the place of row r and column c, and 0 behind the cells.
+    pub(crate) fn read(&self, r: u32, c: u32) -> i64
+        ensures { result ≡ cell_at self.now r c }
+    {
+        let place = c as usize * self.rows as usize + r as usize;
+        self.cells.items().get(place).copied().unwrap_or(0)
+    }
+
     /// The number of a 1x1 array.
     pub fn single(&self) -> Option<i64>
         ensures { result ≡ single_of self.now }

@@ -2,6 +2,7 @@
 
 ghost use Rattle.std.specs.Prelude.{◌≡◌};
 ghost use Rattle.pl_array.specs.Arrays.{class_number};
+ghost use Rattle.pl_array.specs.Joining.{greater_class};
 
 /// The class of an array's cells, the least first: joined arrays get the greatest of theirs.
 #[derive(Clone, Copy, Debug, PartialEq, Eq)]
@@ -23,6 +24,17 @@ impl Class {
             Class::Logical => 0,
             Class::Int => 1,
             Class::Char => 2,
+        }
+    }
+
+    /// The later of two classes.
+    pub fn greater(self, other: Class) -> Class
+        ensures { result ≡ greater_class self other }
+    {
+        if self.number() < other.number() {
+            other
+        } else {
+            self
         }
     }
 }

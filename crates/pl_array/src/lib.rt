@@ -8,6 +8,7 @@
 
 mod arr;
 mod class;
+mod conversion;
 mod elementwise;
 mod fitting;
 mod held;
@@ -16,11 +17,14 @@ mod passes;
 mod refusals;
 mod rules;
 mod searches;
+mod turn;
 mod unary;
 
 pub use arr::Arr;
 pub use class::{Class, Shape};
+pub use conversion::convert;
 pub use elementwise::{map2, map2_in};
 pub use fitting::fit;
 pub use ops::{Op1, Op2};
+pub use turn::transpose;
 pub use unary::{map1, map1_in};

@@ -149,6 +149,5 @@ pub(crate) fn cell_for(a: &Arr, rows: u32, k: u32) -> i64
     let shape = a.shape();
     let r = if shape.rows == 1 { 0 } else { k % rows };
     let c = if shape.cols == 1 { 0 } else { k / rows };
-    let place = c as usize * shape.rows as usize + r as usize;
-    a.cells().get(place).copied().unwrap_or(0)
+    a.read(r, c)
 }
