@@ -1,5 +1,5 @@
 -- The parts of the answer for two operands that fit.
-use Rattle.std.proofs.Common.{◌≡◌, ℕ, ◌*◌, ℤ, int_lt, Bool, true, false, not, ◌&&◌, ◌||◌, List, [], ◌∷◌, map, length, Ok, arith, refl, ap, ◌∙◌}
+use Rattle.std.proofs.Common.{◌≡◌, ◌*◌, ℤ, int_lt, Bool, true, false, not, ◌&&◌, ◌||◌, List, [], ◌∷◌, map, length, Ok, arith, refl, ap, ◌∙◌}
 use Rattle.std.specs.List.{All, range_with_len, list_any}
 use Rattle.std.specs.Ordering.{int_eq}
 use Rattle.std.proofs.lemmas.Int.{ints}

@@ -1,6 +1,6 @@
 -- Cells that are converted, read elsewhere or joined are of the class that they get.
-use Rattle.std.proofs.Common.{◌≡◌, ℕ, ◌+◌, ◌*◌, ◌/◌, ◌%◌, ◌<◌, ◌≤◌, ℤ, pos, negsuc, int_lt, Bool, true, false, ◌||◌, List, [], ◌∷◌, map, length, get_or, arith, refl, ap, subst, sym, ◌∙◌}
-use Rattle.std.specs.List.{All, range_with_len, list_any}
+use Rattle.std.proofs.Common.{◌≡◌, ℕ, ◌+◌, ◌*◌, ◌/◌, ◌%◌, ◌<◌, ◌≤◌, ℤ, pos, negsuc, int_lt, Bool, true, false, ◌||◌, List, [], ◌∷◌, map, length, get_or, arith, refl, ap, subst, sym}
+use Rattle.std.specs.List.{All, list_any}
 use Rattle.std.proofs.lemmas.Bool.{ltb-false}
 use Rattle.std.proofs.lemmas.Int.{ints}
 use Rattle.std.proofs.lemmas.Nat.{mul-add-lt, div_below, mod_below}

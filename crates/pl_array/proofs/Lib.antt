@@ -3,3 +3,4 @@ mod Layouts
 mod Combined
 mod Singles
 mod Kept
+mod Joins

@@ -1,12 +1,12 @@
 -- Arrays joined, converted to another class, and turned.
-use Rattle.std.specs.Prelude.{◌≡◌, ℕ, ◌+◌, ◌-◌, ◌*◌, ◌/◌, ◌%◌, ◌==◌, ℤ, pos, int_lt, Bool, true, false, ◌&&◌, ◌||◌, List, map, ◌++◌, Option, Some, None, Result, Ok, Err, if◌then◌else◌, nat_le, nat_lt}
+use Rattle.std.specs.Prelude.{◌≡◌, ℕ, ◌+◌, ◌-◌, ◌*◌, ◌/◌, ◌%◌, ◌==◌, ℤ, pos, int_lt, Bool, false, ◌&&◌, ◌||◌, List, map, ◌++◌, Option, Some, None, Result, Ok, Err, if◌then◌else◌, nat_le, nat_lt}
 use Rattle.std.specs.List.{range_with_len, list_any}
 use Rattle.pl_base.specs.declared.errors.ErrKind.{ErrKind}
 use Rattle.pl_base.specs.declared.errors.ErrKind.TheVariants.{ConcatMismatch, CharRange, SizeLimit}
 use Rattle.pl_array.specs.declared.class.Class.{Class}
 use Rattle.pl_array.specs.declared.class.Class.TheVariants.{Logical, Int, Char}
 use Rattle.pl_array.specs.declared.class.Shape.{Shape}
-use Rattle.pl_array.specs.Arrays.{Array, class_number, most, cell_at}
+use Rattle.pl_array.specs.Arrays.{Array, IsValid, class_number, most, cell_at}
 use Rattle.pl_array.specs.Cellwise.{shape_of, truth, is_true}
 
 -- the cells in this order
@@ -48,14 +48,25 @@ is_within s = nat_le (s.rows * s.cols) most && nat_le s.rows most && nat_le s.co
 abbrev pub below_at : Array → Array → ℕ → ℕ → ℤ
 below_at a b rows k = if nat_lt (k % rows) a.rows then cell_at a (k % rows) (k / rows) else cell_at b (k % rows - a.rows) (k / rows)
 
+-- some number of the two can't be a cell of the class
+abbrev pub has_no_char : Class → Array → Array → Bool
+has_no_char class a b = list_any (is_no_char class) a.cells || list_any (is_no_char class) b.cells
+
+-- two valid arrays whose numbers can all be of their later class
+pub record Joins (a b : Array) (class : Class) : Type 0 where
+  pub left : IsValid a
+  pub right : IsValid b
+  pub later : class ≡ greater_class a.class b.class
+  pub left_chars : false ≡ list_any (is_no_char class) a.cells
+  pub right_chars : false ≡ list_any (is_no_char class) b.cells
+
 -- the refusals of joining in their order, and else the array of these cells
 abbrev pub joined : Option Shape → Array → Array → (Shape → List ℤ) → Result Array ErrKind
 joined None a b cells = Err ConcatMismatch
 joined (Some s) a b cells =
     if is_within s then
-    (if list_any (is_no_char (greater_class a.class b.class)) a.cells || list_any (is_no_char (greater_class a.class b.class)) b.cells
-    then Err CharRange
-    else Ok (record { class = greater_class a.class b.class; rows = s.rows; cols = s.cols; cells = cells s }))
+    (if has_no_char (greater_class a.class b.class) a b then Err CharRange else
+    Ok (record { class = greater_class a.class b.class; rows = s.rows; cols = s.cols; cells = cells s }))
     else Err SizeLimit
 
 -- b to the right of a: the columns of a, and then those of b

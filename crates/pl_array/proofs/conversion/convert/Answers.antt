@@ -1,5 +1,5 @@
 -- The cells are of the new class.
-use Rattle.std.proofs.Common.{◌≡◌, ℤ, List, false, ap, sym, ◌∙◌}
+use Rattle.std.proofs.Common.{ap, sym, ◌∙◌}
 use Rattle.std.specs.List.{list_any}
 use Rattle.pl_array.specs.Joining.{is_no_char}
 use Rattle.pl_array.proofs.Kept.{converted_cells}

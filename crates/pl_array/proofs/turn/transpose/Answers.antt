@@ -1,5 +1,5 @@
 -- Each cell of the result is one of the operand's.
-use Rattle.std.proofs.Common.{◌≡◌, ◌*◌, ◌/◌, ◌%◌, length, ap, sym, ◌∙◌, subst}
+use Rattle.std.proofs.Common.{◌*◌, ◌/◌, ◌%◌, length, ap, sym, ◌∙◌, subst}
 use Rattle.std.specs.List.{All}
 use Rattle.pl_array.specs.Arrays.{IsCell, cell_at}
 use Rattle.pl_array.specs.declared.class.Class.{Class}

@@ -1,5 +1,5 @@
 -- A single number has the answer of any other array, and the cells are of the operator's class.
-use Rattle.std.proofs.Common.{◌≡◌, ℤ, [], ◌∷◌, FitsSigned, w64, to_z, of_z, ap, ap₂, sym, ◌∙◌, subst, rules}
+use Rattle.std.proofs.Common.{ℤ, [], ◌∷◌, FitsSigned, w64, ap, ap₂, sym, ◌∙◌, subst, rules}
 use Rattle.std.specs.List.{All}
 use Rattle.std.proofs.lemmas.Int.{to_z-of_z}
 use Rattle.pl_array.specs.Arrays.{Array, IsCell}
