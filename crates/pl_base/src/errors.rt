@@ -61,4 +61,5 @@ pub enum ErrKind {
     LocalSize,
     SchemeMismatch,
     NotInReduction,
+    Overflow,
 }

@@ -10,6 +10,7 @@ mod choice;
 mod errors;
 mod gate;
 mod memory;
+mod mode;
 mod numbers;
 mod seq;
 mod text;
@@ -18,6 +19,10 @@ pub use choice::{Bracket, Choice, Given, Sender, State};
 pub use errors::{ErrKind, Place, ScriptError};
 pub use gate::{Free, Gate};
 pub use memory::{NoMemory, Or};
-pub use numbers::{add_sat, sub_sat};
+pub use mode::Mode;
+pub use numbers::{
+    NegativePower, add_sat, div_round, mod_floor, mul_sat, neg_sat, pow_sat, power, power_within,
+    rem_zero, sub_sat,
+};
 pub use seq::Seq;
 pub use text::{Text, Word};

@@ -1,0 +1,6 @@
+mod Writes
+mod Layouts
+mod Combined
+mod Singles
+mod Kept
+mod Joins

@@ -1,0 +1,4 @@
+pub mod Arrays
+pub mod Inner
+pub mod Cellwise
+pub mod Joining
