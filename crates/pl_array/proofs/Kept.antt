@@ -1,5 +1,5 @@
 -- Cells that are converted, read elsewhere or joined are of the class that they get.
-use Rattle.std.proofs.Common.{◌≡◌, ℕ, ◌+◌, ◌*◌, ◌/◌, ◌%◌, ◌<◌, ◌≤◌, ℤ, pos, negsuc, int_lt, Bool, true, false, ◌||◌, List, [], ◌∷◌, map, length, get_or, arith, refl, ap, subst, sym}
+use Rattle.std.proofs.Common.{Ok, ◌≡◌, ℕ, ◌+◌, ◌*◌, ◌/◌, ◌%◌, ◌<◌, ◌≤◌, ℤ, pos, negsuc, int_lt, Bool, true, false, ◌||◌, List, [], ◌∷◌, map, length, get_or, arith, refl, ap, subst, sym}
 use Rattle.std.specs.List.{All, list_any}
 use Rattle.std.proofs.lemmas.Bool.{ltb-false}
 use Rattle.std.proofs.lemmas.Int.{ints}
@@ -7,10 +7,11 @@ use Rattle.std.proofs.lemmas.Nat.{mul-add-lt, div_below, mod_below}
 use Rattle.std.proofs.lemmas.List.FromFn.{length-map-range_with_len, get_or-map-range_with_len}
 use Rattle.std.proofs.lemmas.List.Elements.{All-map, All-nil, All-cons, All-from_get_or}
 use Rattle.pl_array.specs.declared.class.Class.{Class}
+use Rattle.pl_array.specs.declared.class.Shape.{Shape}
 use Rattle.pl_array.specs.declared.class.Class.TheVariants.{Logical, Int, Char}
 use Rattle.pl_array.specs.Arrays.{Array, IsCell, IsValid, class_number, cell_at}
-use Rattle.pl_array.specs.Cellwise.{truth, is_true}
-use Rattle.pl_array.specs.Joining.{by_places, is_no_char, converted, transposed}
+use Rattle.pl_array.specs.Cellwise.{shape_of, truth, is_true}
+use Rattle.pl_array.specs.Joining.{by_places, is_no_char, converted, convert_of, transposed}
 use Rattle.pl_array.proofs.Combined.{none}
 use Rattle.pl_array.proofs.Layouts.{some_rows}
 
@@ -81,3 +82,11 @@ turned_cells a xs e valid =
     rw e (by_places_all (IsCell a.class) (a.cols * a.rows) (λ k. cell_at a (k / a.cols) (k % a.cols)) (λ k h.
     let some : 0 < a.cols = some_rows a.cols a.rows k h in
     cell_within a (k / a.cols) (k % a.cols) valid (div_below k a.cols a.rows some (omega arith)) (mod_below k a.cols some)))
+
+-- the array in a class that keeps its numbers
+pub kept_array : (a : Array) (class : Class) → (class ≡ Logical → ⊥) → false ≡ list_any (is_no_char class) a.cells → convert_of a class ≡ Ok (record { class = class; rows = a.rows; cols = a.cols; cells = a.cells })
+kept_array a class h e = rw (← e, ← kept_numbers class a.cells h) refl
+
+-- the array of truth values
+pub truths_array : (a : Array) (s : Shape) (ys xs : List ℤ) → s ≡ shape_of a → ys ≡ a.cells → xs ≡ map (λ z. truth (is_true z)) ys → convert_of a Logical ≡ Ok (record { class = Logical; rows = s.rows; cols = s.cols; cells = xs })
+truths_array a s ys xs es ey ex = rw (es, ex, ey, ← none a.cells) refl

@@ -108,6 +108,20 @@ impl Arr {
         }
     }
 
+    /// The same cells in another class; takes no memory where a copy takes none.
+    pub(crate) fn recast(&self, alloc: Global, class: Class) -> Result<Arr, NoMemory>
+        requires { All (IsCell class) self.now.cells }
+        ensures { IfOk result (λ a. a ≡ record { class = class; rows = self.now.rows; cols = self.now.cols; cells = self.now.cells }) }
+    {
+        let cells = self.cells.copy(alloc)?;
+        Ok(Arr {
+            class,
+            rows: self.rows,
+            cols: self.cols,
+            cells,
+        })
+    }
+
     pub fn class(&self) -> Class
         ensures { result ≡ self.now.class }
     {

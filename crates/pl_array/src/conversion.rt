@@ -6,7 +6,7 @@
 ghost use Rattle.std.specs.Prelude.{◌≡◌, map, IfOk};
 ghost use Rattle.std.specs.List.{list_any};
 ghost use Rattle.pl_array.specs.Cellwise.{truth, is_true};
-ghost use Rattle.pl_array.specs.Joining.{is_no_char, converted, convert_of};
+ghost use Rattle.pl_array.specs.Joining.{is_no_char, convert_of};
 
 use crate::arr::Arr;
 use crate::class::Class;
@@ -20,8 +20,10 @@ pub fn convert(alloc: Global, a: &Arr, class: Class) -> Result<Arr, Or<ErrKind>>
     if has_no_char(class, a.cells()) {
         return Err(Or::Is(ErrKind::CharRange));
     }
-    let cells = cells_in(alloc, class, a.cells())?;
-    Ok(Arr::new(class, a.shape(), cells))
+    match class {
+        Class::Logical => Ok(truths_of(alloc, a)?),
+        _ => Ok(a.recast(alloc, class)?),
+    }
 }
 
 /// Whether some number is no char, where the class is char.
@@ -34,13 +36,11 @@ pub(crate) fn has_no_char(class: Class, xs: &[i64]) -> bool
     }
 }
 
-fn cells_in(alloc: Global, class: Class, xs: &[i64]) -> Result<Vec<i64>, NoMemory>
-    ensures { IfOk result (λ v. v.items ≡ map (converted class) xs.now) }
+fn truths_of(alloc: Global, a: &Arr) -> Result<Arr, NoMemory>
+    ensures { IfOk result (λ o. convert_of a.now Class.Logical ≡ Ok o) }
 {
-    match class {
-        Class::Logical => truths(alloc, xs),
-        _ => Ok(Vec::from_slice(alloc, xs)?),
-    }
+    let cells = truths(alloc, a.cells())?;
+    Ok(Arr::new(Class::Logical, a.shape(), cells))
 }
 
 fn truths(alloc: Global, xs: &[i64]) -> Result<Vec<i64>, NoMemory>
