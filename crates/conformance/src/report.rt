@@ -3,11 +3,11 @@
 ghost use Rattle.std.specs.Prelude.{◌≡◌, ◌↔◌, ◌<◌, ◌≤◌, IsTrue, true, false};
 
 use crate::cases::Case;
-use crate::compare::{self, Difference, Seen, Verdict};
+use crate::compare::{self, Seen, Verdict};
 use crate::parse::parse;
 use crate::run;
 use anyhow::Result;
-use pl_base::{NoMemory, Or, Text, Word};
+use pl_base::{NoMemory, Or, Word};
 use std::rt::Files;
 use std::sync::Wait;
 use std::thread::Threads;
