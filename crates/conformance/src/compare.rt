@@ -1,0 +1,78 @@
+//! What a run left, held against what was wanted of it.
+
+ghost use Rattle.std.specs.Prelude.{◌≡◌, ◌↔◌, IsTrue, Contains};
+ghost use Rattle.conformance.specs.Passes.{Passes};
+ghost use Rattle.conformance.specs.declared.compare.Verdict.{Verdict};
+
+use crate::cases::Wanted;
+use pl_base::{Seq, Text};
+
+/// What a run left.
+#[derive(Debug, Drop)]
+pub struct Seen {
+    pub status: u8,
+    pub out: Text,
+    pub notes: Text,
+}
+
+/// Where two texts differ first: a line of each, counted from 1, with its end. A text that has no such
+/// line has ended.
+#[derive(Clone, Copy, Debug)]
+pub struct Difference<'a> {
+    pub line: u64,
+    pub wanted: Option<&'a [u8]>,
+    pub got: Option<&'a [u8]>,
+}
+
+/// How a run compares with what was wanted: the first of status, output and notes that is wrong.
+#[derive(Clone, Copy, Debug)]
+pub enum Verdict {
+    Passed,
+    WrongStatus,
+    WrongOut,
+    WrongNotes,
+}
+
+pub fn judge(wanted: &Wanted, seen: &Seen) -> Verdict
+    ensures { (result ≡ Verdict.Passed) ↔ Passes wanted.now seen.now }
+{
+    if seen.status != wanted.status {
+        return Verdict::WrongStatus;
+    }
+    if !is_allowed(&wanted.outs, &seen.out) {
+        return Verdict::WrongOut;
+    }
+    if seen.notes != wanted.notes {
+        return Verdict::WrongNotes;
+    }
+    Verdict::Passed
+}
+
+/// The text is one of those that are allowed.
+fn is_allowed(allowed: &Seq<Text>, text: &Text) -> bool
+    ensures { IsTrue result ↔ Contains allowed.now text.now }
+{
+    allowed.items().contains(text)
+}
+
+/// The first line in which the texts differ. Texts that are equal differ where both have ended.
+pub fn first_difference<'a>(wanted: &'a [u8], got: &'a [u8]) -> Difference<'a> {
+    let mut wanted_lines = wanted.split_inclusive(|b| *b == b'\n');
+    let mut got_lines = got.split_inclusive(|b| *b == b'\n');
+    for line in 1..u64::MAX {
+        let wanted_line = wanted_lines.next();
+        let got_line = got_lines.next();
+        if wanted_line.is_none() || wanted_line != got_line {
+            return Difference {
+                line,
+                wanted: wanted_line,
+                got: got_line,
+            };
+        }
+    }
+    Difference {
+        line: u64::MAX,
+        wanted: None,
+        got: None,
+    }
+}
