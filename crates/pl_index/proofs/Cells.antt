@@ -1,15 +1,14 @@
 -- Cells that are picked are of the array's class, and as many as the places.
-use Rattle.std.proofs.Common.{◌≡◌, ℕ, ◌+◌, ◌*◌, ◌/◌, ◌%◌, ◌<◌, ◌≤◌, ◌⊎◌, inl, inr, ℤ, pos, ltb, Bool, true, false, cond, ◌&&◌, List, [], ◌∷◌, map, length, get_or, arith, refl, ap, sym, subst, ◌∙◌}
-use Rattle.std.specs.List.{All, range_with_len}
-use Rattle.std.proofs.lemmas.List.{length-map}
+use Rattle.std.proofs.Common.{◌≡◌, ℕ, ◌+◌, ◌*◌, ◌/◌, ◌%◌, inl, inr, ℤ, pos, ltb, Bool, true, false, cond, ◌&&◌, List, length, get_or, arith, sym, subst}
+use Rattle.std.specs.List.{All}
 use Rattle.std.proofs.lemmas.List.FromFn.{length-map-range_with_len}
-use Rattle.std.proofs.lemmas.List.Elements.{All-map, All-same}
+use Rattle.std.proofs.lemmas.List.Elements.{All-map}
 use Rattle.pl_array.specs.declared.class.Class.{Class}
 use Rattle.pl_array.specs.declared.class.Class.TheVariants.{Logical, Int, Char}
-use Rattle.pl_array.specs.Arrays.{Array, IsCell, IsValid, most, cell_at}
+use Rattle.pl_array.specs.Arrays.{Array, IsCell, IsValid, cell_at}
 use Rattle.pl_index.specs.Writing.{old_at, regrown, Grows}
 use Rattle.pl_array.specs.declared.class.Shape.{Shape}
-use Rattle.pl_index.specs.Places.{crossing, picked, Holds}
+use Rattle.pl_index.specs.Places.{crossing, picked}
 use Rattle.pl_index.proofs.Crossing.{by_length, past_end_of, from_range_all}
 
 pub zero_is_cell : (class : Class) → IsCell class (pos 0)

@@ -1,5 +1,5 @@
 -- What selecting and deleting answer: the refusals in their order, and else the cells at the places named or left.
-use Rattle.std.specs.Prelude.{◌≡◌, ℕ, ◌*◌, ◌==◌, [], Bool, true, false, not, ◌&&◌, ◌||◌, List, length, Result, Ok, Err, if◌then◌else◌, nat_lt}
+use Rattle.std.specs.Prelude.{ℕ, ◌*◌, ◌==◌, [], Bool, not, ◌&&◌, ◌||◌, List, length, Result, Ok, Err, if◌then◌else◌, nat_lt}
 use Rattle.std.specs.List.{range_with_len}
 use Rattle.pl_base.specs.declared.errors.ErrKind.{ErrKind}
 use Rattle.pl_base.specs.declared.errors.ErrKind.TheVariants.{BadIndex, IndexRange, SizeLimit, DeleteShape}

@@ -1,5 +1,5 @@
 -- The places that a position names, which count from 0, and the cells at places.
-use Rattle.std.specs.Prelude.{◌≡◌, ℕ, ◌+◌, ◌-◌, ◌*◌, ◌/◌, ◌%◌, ◌≤◌, ◌==◌, ℤ, pos, unsigned_abs, int_lt, Bool, true, false, not, ◌&&◌, ◌||◌, List, map, length, slice_index_or, if◌then◌else◌, min, max}
+use Rattle.std.specs.Prelude.{◌≡◌, ℕ, ◌+◌, ◌-◌, ◌*◌, ◌/◌, ◌%◌, ◌≤◌, ◌==◌, ℤ, pos, unsigned_abs, int_lt, Bool, true, false, not, ◌&&◌, List, map, length, slice_index_or, if◌then◌else◌, min, max}
 use Rattle.std.specs.List.{range_with_len, list_any, filter, fold}
 use Rattle.pl_array.specs.declared.class.Class.{Class}
 use Rattle.pl_array.specs.declared.class.Class.TheVariants.{Logical}

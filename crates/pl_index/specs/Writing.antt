@@ -1,5 +1,5 @@
 -- What an assignment makes: the refusals in their order, and else for each cell the last value written there, the old cell, or 0.
-use Rattle.std.specs.Prelude.{◌≡◌, ℕ, ◌*◌, ◌/◌, ◌%◌, ◌≤◌, ◌==◌, ℤ, pos, Bool, true, false, not, ◌&&◌, ◌||◌, List, [], ◌∷◌, length, slice_index_or, replicate, Result, Ok, Err, if◌then◌else◌, nat_le, nat_lt, max}
+use Rattle.std.specs.Prelude.{ℕ, ◌*◌, ◌/◌, ◌%◌, ◌≤◌, ◌==◌, ℤ, pos, Bool, ◌&&◌, ◌||◌, List, [], ◌∷◌, length, slice_index_or, replicate, Result, Ok, Err, if◌then◌else◌, nat_le, nat_lt, max}
 use Rattle.pl_base.specs.declared.errors.ErrKind.{ErrKind}
 use Rattle.pl_base.specs.declared.errors.ErrKind.TheVariants.{BadIndex, SizeLimit, GrowAmbiguous, AssignSize}
 use Rattle.pl_array.specs.declared.class.Shape.{Shape}
@@ -7,8 +7,6 @@ use Rattle.pl_array.specs.declared.class.Class.{Class}
 use Rattle.pl_array.specs.Arrays.{Array, most, cell_at}
 use Rattle.pl_array.specs.Cellwise.{shape_of}
 use Rattle.pl_array.specs.Joining.{is_nil, is_within, by_places, convert_of}
-use Rattle.pl_index.specs.declared.index.Pos.{Pos}
-use Rattle.pl_index.specs.declared.index.Pos.TheVariants.{All, At}
 use Rattle.pl_index.specs.declared.index.Index.{Index}
 use Rattle.pl_index.specs.declared.index.Index.TheVariants.{One, Two}
 use Rattle.pl_index.specs.Places.{is_bad, places_of, reach, crossing}

@@ -6,7 +6,6 @@
 ghost use Rattle.std.specs.Prelude.{◌≡◌, ◌*◌, ◌<◌, ◌≤◌, [], not, false, length, replicate, slice_index_or, IfOk, OnOk, OnErr};
 ghost use Rattle.std.specs.List.{All, filter, range_with_len};
 ghost use Rattle.pl_array.specs.Arrays.{most};
-ghost use Rattle.pl_array.specs.Joining.{is_nil};
 ghost use Rattle.pl_index.specs.Inner.{marked};
 ghost use Rattle.pl_index.specs.Places.{Holds, reach, left_over};
 ghost use Rattle.pl_index.specs.Choosing.{left_shape, delete_rows, delete_cols, delete_lines, delete_of};

@@ -3,12 +3,10 @@
 //! Promised: the shape after the assignment, or the refusal: past the limits, or no way to grow that is clear.
 
 ghost use Rattle.std.specs.Prelude.{◌≡◌, ◌⊎◌, ◌*◌, ◌<◌, ◌≤◌, true, length, IfOk};
-ghost use Rattle.pl_array.specs.Arrays.{IsValid, most};
-ghost use Rattle.pl_array.specs.Cellwise.{shape_of};
-ghost use Rattle.pl_array.specs.Joining.{is_nil, is_within};
-ghost use Rattle.pl_index.specs.Places.{reach, Inside};
-ghost use Rattle.pl_index.specs.Choosing.{row_of, column_of};
-ghost use Rattle.pl_index.specs.Writing.{line_grown, block_grown, greater, fits_line, fits_block, extent_for};
+ghost use Rattle.pl_array.specs.Arrays.{most};
+ghost use Rattle.pl_array.specs.Joining.{is_nil};
+ghost use Rattle.pl_index.specs.Places.{Inside};
+ghost use Rattle.pl_index.specs.Writing.{line_grown, block_grown, fits_line, fits_block, extent_for};
 
 use crate::places::reach_of;
 use crate::selecting::{column, row};

@@ -7,7 +7,7 @@ ghost use Rattle.std.specs.List.{range_with_len, list_any};
 ghost use Rattle.pl_array.specs.Arrays.{most};
 ghost use Rattle.pl_array.specs.Cellwise.{is_true};
 ghost use Rattle.pl_index.specs.declared.index.Pos.{Pos};
-ghost use Rattle.pl_index.specs.Places.{is_mask, is_bad, place_of, true_places, index_places, places_of, reach, crossing, picked, left_over, Lists, Inside};
+ghost use Rattle.pl_index.specs.Places.{is_mask, is_bad, place_of, true_places, index_places, places_of, reach, crossing, picked, Lists, Inside};
 
 use crate::index::Pos;
 use pl_array::{Arr, Class, Shape};

@@ -3,13 +3,10 @@
 //! Promised: the refusals in their order, and else the cells at the places that the index names, in their shape and
 //! in the class of the array, which is only read.
 
-ghost use Rattle.std.specs.Prelude.{◌≡◌, ◌*◌, ◌<◌, ◌≤◌, length, IfOk};
-ghost use Rattle.std.specs.List.{All};
-ghost use Rattle.pl_array.specs.Arrays.{IsCell, most};
-ghost use Rattle.pl_array.specs.Cellwise.{shape_of};
-ghost use Rattle.pl_array.specs.Joining.{is_nil, is_within};
-ghost use Rattle.pl_index.specs.Places.{Lists, Inside, Holds, reach};
-ghost use Rattle.pl_index.specs.Choosing.{is_vector, is_single, line_like, own_shape, laid, lying, taken, part, select_places, select_part, select_of};
+ghost use Rattle.std.specs.Prelude.{◌≡◌, ◌*◌, ◌<◌, ◌≤◌, [], ◌∷◌, pos, length, slice_index_or, IfOk};
+ghost use Rattle.pl_array.specs.Arrays.{most};
+ghost use Rattle.pl_index.specs.Places.{Lists, Holds, reach};
+ghost use Rattle.pl_index.specs.Choosing.{is_vector, line_like, own_shape, laid, lying, taken, part, select_places, select_part, select_of};
 ghost use Rattle.pl_index.specs.declared.index.Index.{Index};
 
 use crate::index::{Index, Pos};
@@ -171,8 +168,19 @@ pub(crate) fn take(alloc: Global, a: &Arr, s: Shape, places: &[u32]) -> Result<A
     requires { Holds s (length places.now) }
     ensures { IfOk result (λ o. o ≡ taken a.now s places.now) }
 {
+    if let [place] = places {
+        return Ok(take_cell(a, *place));
+    }
     let cells = pick(alloc, a.cells(), places)?;
     Ok(Arr::new(a.class(), s, cells))
+}
+
+/// The cell at one place; takes no memory.
+fn take_cell(a: &Arr, place: u32) -> Arr
+    ensures { result ≡ record { class = a.now.class; rows = 1; cols = 1; cells = slice_index_or a.now.cells place (pos 0) ∷ [] } }
+{
+    let v = a.cells().get(place as usize).copied().unwrap_or(0);
+    Arr::one(a.class(), v)
 }
 
 /// The array of these rows and columns.

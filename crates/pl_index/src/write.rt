@@ -5,7 +5,7 @@
 
 ghost use Rattle.std.specs.Prelude.{◌≡◌, ◌⊎◌, ◌*◌, ◌/◌, ◌%◌, ◌<◌, ◌≤◌, pos, length, replicate, slice_index_or, IfOk, MatchResult, OnErr, OnOk};
 ghost use Rattle.std.specs.List.{All};
-ghost use Rattle.pl_array.specs.Arrays.{IsCell, most};
+ghost use Rattle.pl_array.specs.Arrays.{IsCell};
 ghost use Rattle.pl_array.specs.Joining.{by_places, convert_of};
 ghost use Rattle.pl_index.specs.Writing.{Grows, old_at, regrown, stored, spread_over, store_by};
 

@@ -1,5 +1,5 @@
 -- The places are in the shape, and the value has a cell for each or one for all.
-use Rattle.std.proofs.Common.{◌≡◌, ℕ, ◌*◌, ◌<◌, inl, inr, List, length, refl, ap, sym, subst, ◌∙◌}
+use Rattle.std.proofs.Common.{ℕ, ◌*◌, ◌<◌, inl, inr, List, length, refl, ap, sym, subst, ◌∙◌}
 use Rattle.std.specs.List.{All}
 use Rattle.pl_index.proofs.Crossing.{crossing_below}
 use Rattle.pl_index.proofs.Cells.{length-crossing}

@@ -1,5 +1,5 @@
 -- What has no mark is left.
-use Rattle.std.proofs.Common.{ℕ, ◌≤◌, Bool, List, length, sym, subst}
+use Rattle.std.proofs.Common.{ℕ, ◌≤◌, List, length, sym, subst}
 use Rattle.pl_index.specs.Places.{reach}
 use Rattle.pl_index.proofs.Crossing.{all_below}
 use Rattle.pl_index.proofs.Left.{left_from, left_shorter, left_within}

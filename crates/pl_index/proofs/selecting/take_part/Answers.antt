@@ -1,5 +1,5 @@
 -- There are as many cells as rows times columns.
-use Rattle.std.proofs.Common.{◌≡◌, ◌*◌, ◌≤◌, length, arith, ap, sym, ◌∙◌}
+use Rattle.std.proofs.Common.{◌≡◌, ◌*◌, length, arith, ap, sym, ◌∙◌}
 use Rattle.pl_index.proofs.Cells.{length-crossing}
 use Rattle.pl_index.proofs.selecting.take_part.Goals as goal
 
