@@ -21,9 +21,11 @@ is_vector s = s.rows == 1 || s.cols == 1
 abbrev pub is_single : Shape → Bool
 is_single s = s.rows == 1 && s.cols == 1
 
+-- the shape of a row of so many cells
 abbrev pub row_of : ℕ → Shape
 row_of count = record { rows = 1; cols = count }
 
+-- the shape of a column of so many cells
 abbrev pub column_of : ℕ → Shape
 column_of count = record { rows = count; cols = 1 }
 
