@@ -1,0 +1,4 @@
+pub mod Crossing
+pub mod Cells
+pub mod Stored
+pub mod Left

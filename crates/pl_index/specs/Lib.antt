@@ -1,0 +1,4 @@
+pub mod Places
+pub mod Choosing
+pub mod Writing
+pub mod Inner
