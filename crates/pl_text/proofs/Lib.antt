@@ -1,2 +1,4 @@
 pub mod Each
 pub mod Bytes
+pub mod Uses
+pub mod Lines

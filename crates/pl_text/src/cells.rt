@@ -34,7 +34,7 @@ pub fn width_of(cells: &[i64]) -> usize
 }
 
 /// Adds blanks.
-fn push_blanks(text: &mut Vec<u8>, count: usize) -> Result<(), NoMemory>
+pub fn push_blanks(text: &mut Vec<u8>, count: usize) -> Result<(), NoMemory>
     ensures ok { OnOk result (text.new.items ≡ text.old.items ++ replicate count 32) }
 {
     for _blank in 0..count {

@@ -24,7 +24,7 @@ fn push_characters(text: &mut Vec<u8>, a: &Arr, row: u32) -> Result<(), NoMemory
 
 /// Adds a row of numbers, each in a field of this width.
 #[tactic(auto, using(crate::proofs::Each::each_more))]
-fn push_numbers(text: &mut Vec<u8>, a: &Arr, row: u32, width: usize) -> Result<(), NoMemory>
+pub fn push_numbers(text: &mut Vec<u8>, a: &Arr, row: u32, width: usize) -> Result<(), NoMemory>
     requires row { row < a.now.rows }
     requires width { width ≡ width_in a.now.cells }
     ensures { OnOk result (text.new.items ≡ text.old.items ++ numbers a.now row) }

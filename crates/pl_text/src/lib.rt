@@ -8,7 +8,15 @@
 
 mod cells;
 mod displayed;
+mod formatted;
+mod items;
 mod literal;
+mod numerals;
+mod pattern;
+#[cfg(test)]
+mod tests;
 
 pub use displayed::{disp_text, named_text};
+pub use formatted::format;
 pub use literal::mat2str;
+pub use numerals::num2str;
