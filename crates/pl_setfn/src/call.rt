@@ -1,0 +1,3 @@
+//! A call by its arguments.
+
+use pl_array::Arr;

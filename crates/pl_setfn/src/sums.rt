@@ -1,0 +1,3 @@
+//! Running sums.
+
+use pl_array::Arr;
