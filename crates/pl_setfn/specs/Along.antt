@@ -46,6 +46,11 @@ abbrev pub index_at : Dim → Shape → ℕ → ℕ
 index_at Down s k = k % s.rows
 index_at Across s k = k / s.rows
 
+-- how far behind a cell the next one of its line stands
+abbrev pub stride : Dim → Shape → ℕ
+stride Down s = 1
+stride Across s = s.rows
+
 -- the sum of a line up to the cell at a place
 abbrev pub running : Mode → Dim → Array → ℕ → Option ℤ
 running mode d a k = folded (added mode) (pos 0) (take (index_at d (shape_of a) k + 1) (line d a (line_at d (shape_of a) k)))

@@ -4,9 +4,10 @@
 
 ghost use Rattle.std.specs.Prelude.{◌≡◌, ℕ, ◌+◌, ◌-◌, ◌*◌, ◌/◌, ◌%◌, ◌<◌, ◌≤◌, ◌^◌, ℤ, pos, slice_index_or, length, IfOk};
 ghost use Rattle.std.specs.Option.{SomeIff};
-ghost use Rattle.pl_array.specs.Arrays.{most, cell_at};
+ghost use Rattle.pl_array.specs.Arrays.{IsValid, most, cell_at};
 ghost use Rattle.pl_array.specs.Joining.{by_places, is_within};
 ghost use Rattle.pl_array.specs.declared.class.Shape.{Shape};
+ghost use Rattle.pl_setfn.specs.Arguments.{with_number};
 ghost use Rattle.pl_setfn.specs.Layout.{laid_out, reshaped, reshape_to, reshape_of, times, tiled, repmat_of, fliplr_of, flipud_of};
 
 use pl_array::{Arr, Shape};
@@ -18,12 +19,20 @@ pub(crate) fn reshape(alloc: Global, a: &Arr, m: &Arr, n: &Arr) -> Result<Arr, O
     ensures ok { IfOk result (λ o. reshape_of a.now m.now n.now ≡ Ok o) }
     ensures err { (kind : ErrKind) → result ≡ Err (Or.Is kind) → reshape_of a.now m.now n.now ≡ Err kind }
 {
-    if let Some(r) = m.single()
-        && let Some(c) = n.single()
-    {
-        return reshape_by(alloc, a, r, c);
+    match m.single() {
+        Some(r) => reshape_rows(alloc, a, r, n),
+        None => Err(Or::Is(ErrKind::NotScalar)),
     }
-    Err(Or::Is(ErrKind::NotScalar))
+}
+
+fn reshape_rows(alloc: Global, a: &Arr, r: i64, n: &Arr) -> Result<Arr, Or<ErrKind>>
+    ensures ok { IfOk result (λ o. with_number n.now (λ c. reshape_to a.now r c) ≡ Ok o) }
+    ensures err { (kind : ErrKind) → result ≡ Err (Or.Is kind) → with_number n.now (λ c. reshape_to a.now r c) ≡ Err kind }
+{
+    match n.single() {
+        Some(c) => reshape_by(alloc, a, r, c),
+        None => Err(Or::Is(ErrKind::NotScalar)),
+    }
 }
 
 fn reshape_by(alloc: Global, a: &Arr, r: i64, c: i64) -> Result<Arr, Or<ErrKind>>
@@ -59,12 +68,20 @@ pub(crate) fn repmat(alloc: Global, a: &Arr, m: &Arr, n: &Arr) -> Result<Arr, Or
     ensures ok { IfOk result (λ o. repmat_of a.now m.now n.now ≡ Ok o) }
     ensures err { (kind : ErrKind) → result ≡ Err (Or.Is kind) → repmat_of a.now m.now n.now ≡ Err kind }
 {
-    if let Some(r) = m.single()
-        && let Some(c) = n.single()
-    {
-        return tile(alloc, a, how_often(r), how_often(c));
+    match m.single() {
+        Some(r) => repeat_rows(alloc, a, how_often(r), n),
+        None => Err(Or::Is(ErrKind::NotScalar)),
     }
-    Err(Or::Is(ErrKind::NotScalar))
+}
+
+fn repeat_rows(alloc: Global, a: &Arr, down: u64, n: &Arr) -> Result<Arr, Or<ErrKind>>
+    ensures ok { IfOk result (λ o. with_number n.now (λ c. tiled a.now (record { rows = a.now.rows * down; cols = a.now.cols * times c })) ≡ Ok o) }
+    ensures err { (kind : ErrKind) → result ≡ Err (Or.Is kind) → with_number n.now (λ c. tiled a.now (record { rows = a.now.rows * down; cols = a.now.cols * times c })) ≡ Err kind }
+{
+    match n.single() {
+        Some(c) => tile(alloc, a, down, how_often(c)),
+        None => Err(Or::Is(ErrKind::NotScalar)),
+    }
 }
 
 fn how_often(z: i64) -> u64
@@ -98,6 +115,7 @@ fn extent_of(extent: u32, often: u64) -> Option<u32>
 }
 
 fn tile_to(alloc: Global, a: &Arr, s: Shape) -> Result<Arr, NoMemory>
+    requires valid { IsValid a.now }
     requires limit { s.rows * s.cols ≤ most }
     requires row_limit { s.rows ≤ most }
     requires col_limit { s.cols ≤ most }
@@ -105,12 +123,20 @@ fn tile_to(alloc: Global, a: &Arr, s: Shape) -> Result<Arr, NoMemory>
     requires some_cols { 0 < s.cols → 0 < a.now.cols }
     ensures { IfOk result (λ o. o ≡ laid_out a.now s (λ i j. cell_at a.now (i % a.now.rows) (j % a.now.cols))) }
 {
-    let cells = if s.rows == 0 || s.cols == 0 {
-        Vec::new(alloc)
-    } else {
-        tile_cells(alloc, a, s)?
-    };
+    let cells = tile_any(alloc, a, s)?;
     Ok(Arr::new(a.class(), s, cells))
+}
+
+fn tile_any(alloc: Global, a: &Arr, s: Shape) -> Result<Vec<i64>, NoMemory>
+    requires limit { s.rows * s.cols ≤ most }
+    requires some_rows { 0 < s.rows → 0 < a.now.rows }
+    requires some_cols { 0 < s.cols → 0 < a.now.cols }
+    ensures { IfOk result (λ v. v.items ≡ (laid_out a.now s (λ i j. cell_at a.now (i % a.now.rows) (j % a.now.cols))).cells) }
+{
+    if s.rows == 0 || s.cols == 0 {
+        return Ok(Vec::new(alloc));
+    }
+    tile_cells(alloc, a, s)
 }
 
 fn tile_cells(alloc: Global, a: &Arr, s: Shape) -> Result<Vec<i64>, NoMemory>
@@ -139,16 +165,21 @@ fn read(a: &Arr, r: u32, c: u32) -> i64
 pub(crate) fn fliplr(alloc: Global, a: &Arr) -> Result<Arr, NoMemory>
     ensures { IfOk result (λ o. o ≡ fliplr_of a.now) }
 {
-    let s = a.shape();
-    let cells = if s.rows == 0 || s.cols == 0 {
-        Vec::new(alloc)
-    } else {
-        columns_back(alloc, a, s)?
-    };
-    Ok(Arr::new(a.class(), s, cells))
+    let cells = columns_back(alloc, a)?;
+    Ok(Arr::new(a.class(), a.shape(), cells))
 }
 
-fn columns_back(alloc: Global, a: &Arr, s: Shape) -> Result<Vec<i64>, NoMemory>
+fn columns_back(alloc: Global, a: &Arr) -> Result<Vec<i64>, NoMemory>
+    ensures { IfOk result (λ v. v.items ≡ (fliplr_of a.now).cells) }
+{
+    let s = a.shape();
+    if s.rows == 0 || s.cols == 0 {
+        return Ok(Vec::new(alloc));
+    }
+    columns_by_place(alloc, a, s)
+}
+
+fn columns_by_place(alloc: Global, a: &Arr, s: Shape) -> Result<Vec<i64>, NoMemory>
     requires shape { s ≡ record { rows = a.now.rows; cols = a.now.cols } }
     requires limit { s.rows * s.cols ≤ most }
     requires rows { 0 < s.rows }
@@ -165,16 +196,21 @@ fn columns_back(alloc: Global, a: &Arr, s: Shape) -> Result<Vec<i64>, NoMemory>
 pub(crate) fn flipud(alloc: Global, a: &Arr) -> Result<Arr, NoMemory>
     ensures { IfOk result (λ o. o ≡ flipud_of a.now) }
 {
-    let s = a.shape();
-    let cells = if s.rows == 0 || s.cols == 0 {
-        Vec::new(alloc)
-    } else {
-        rows_back(alloc, a, s)?
-    };
-    Ok(Arr::new(a.class(), s, cells))
+    let cells = rows_back(alloc, a)?;
+    Ok(Arr::new(a.class(), a.shape(), cells))
 }
 
-fn rows_back(alloc: Global, a: &Arr, s: Shape) -> Result<Vec<i64>, NoMemory>
+fn rows_back(alloc: Global, a: &Arr) -> Result<Vec<i64>, NoMemory>
+    ensures { IfOk result (λ v. v.items ≡ (flipud_of a.now).cells) }
+{
+    let s = a.shape();
+    if s.rows == 0 {
+        return Ok(Vec::new(alloc));
+    }
+    rows_by_place(alloc, a, s)
+}
+
+fn rows_by_place(alloc: Global, a: &Arr, s: Shape) -> Result<Vec<i64>, NoMemory>
     requires shape { s ≡ record { rows = a.now.rows; cols = a.now.cols } }
     requires limit { s.rows * s.cols ≤ most }
     requires rows { 0 < s.rows }

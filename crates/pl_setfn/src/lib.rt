@@ -9,7 +9,7 @@
 
 mod along;
 mod arguments;
-mod call;
+
 mod finding;
 mod layout;
 mod order;

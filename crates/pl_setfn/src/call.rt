@@ -1,3 +1,0 @@
-//! A call by its arguments.
-
-use pl_array::Arr;
