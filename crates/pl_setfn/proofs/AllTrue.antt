@@ -1,9 +1,7 @@
 -- The folds of truth values are the words for them.
-use Rattle.std.proofs.Common.{◌≡◌, ℤ, pos, Bool, true, false, ◌&&◌, ◌||◌, List, [], ◌∷◌, map, Option, Some, None, Result, Ok, Err, IfOk, refl, ap, sym, ◌∙◌}
+use Rattle.std.proofs.Common.{◌≡◌, ℤ, pos, Bool, true, false, ◌&&◌, ◌||◌, List, [], ◌∷◌, map, Option, Some, Ok, refl, ap, ◌∙◌}
 use Rattle.std.specs.Prelude.{option_map}
 use Rattle.std.specs.List.{fold, list_any, list_all}
-use Rattle.pl_base.specs.declared.errors.ErrKind.{ErrKind}
-use Rattle.pl_base.specs.declared.memory.Or.{Or}
 use Rattle.pl_array.specs.declared.class.Class.TheVariants.{Logical}
 use Rattle.pl_array.specs.Arrays.{Array}
 use Rattle.pl_array.specs.Cellwise.{shape_of, truth, is_true}
@@ -40,8 +38,3 @@ any_is d a = ap (λ (r : Option (List ℤ)). unless_refused r (one_a_line Logica
 
 pub all_is : (d : Dim) (a : Array) → fold_lines_of Logical all_step (pos 1) d a ≡ Ok (all_true_of d a)
 all_is d a = ap (λ (r : Option (List ℤ)). unless_refused r (one_a_line Logical d (shape_of a))) (never_refused all_step (pos 1) (λ cells. truth (list_all is_true cells)) (each_from true) (lines d a))
-
--- an answer that is known
-pub known : (answer : Result Array ErrKind) (x : Array) (r : Result Array (Or ErrKind)) → answer ≡ Ok x → IfOk r (λ o. answer ≡ Ok o) → IfOk r (λ o. x ≡ o)
-known answer x (Ok o) e h = let same : Ok x ≡ Ok o = sym e ∙ h in cc
-known answer x (Err kind) e h = tt

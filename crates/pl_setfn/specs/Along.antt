@@ -1,5 +1,5 @@
 -- Functions of the lines along a dimension: whether some or each cell is true, and running sums.
-use Rattle.std.specs.Prelude.{ℕ, ◌+◌, ◌*◌, ◌/◌, ◌%◌, ℤ, pos, ◌+ℤ◌, List, map, take, Option, Some, None, Result, if◌then◌else◌}
+use Rattle.std.specs.Prelude.{ℕ, ◌+◌, ◌*◌, ◌/◌, ◌%◌, ℤ, pos, ◌+ℤ◌, List, map, take, Option, Some, None, Result, Ok, if◌then◌else◌}
 use Rattle.std.specs.List.{range_with_len, list_any, list_all}
 use Rattle.std.specs.Ordering.{int_eq}
 use Rattle.pl_base.specs.Numbers.{clamp}
@@ -14,11 +14,9 @@ use Rattle.pl_lines.specs.declared.dim.Dim.{Dim}
 use Rattle.pl_lines.specs.declared.dim.Dim.TheVariants.{Down, Across}
 use Rattle.pl_lines.specs.Lines.{default_dim, line, lines, one_a_line}
 use Rattle.pl_lines.specs.Folding.{folded, all_of, unless_refused}
-use Rattle.pl_setfn.specs.Arguments.{with_one_or_two, with_dim}
-
--- along the default dimension, or along the one that is given
-abbrev pub along : (Dim → Array → Result Array ErrKind) → List Array → Result Array ErrKind
-along f args = with_one_or_two (λ a. f (default_dim (shape_of a)) a) (λ a d. with_dim d (λ d. f d a)) args
+use Rattle.pl_setfn.specs.Arguments.{with_one_or_two, dim_asked, unless_err}
+use Rattle.pl_setfn.specs.declared.along.LineFn.{LineFn}
+use Rattle.pl_setfn.specs.declared.along.LineFn.TheVariants.{Any, All, Sums}
 
 -- a truth value for each line
 abbrev pub truths : (List ℤ → ℤ) → Dim → Array → Array
@@ -60,3 +58,13 @@ abbrev pub cumsum_of : Mode → Dim → Array → Result Array ErrKind
 cumsum_of mode d a =
     unless_refused (all_of (map (running mode d a) (range_with_len 0 (a.rows * a.cols))))
     (λ sums. record { class = Int; rows = a.rows; cols = a.cols; cells = sums })
+
+-- what a function of lines answers along a dimension
+abbrev pub line_fn_of : LineFn → Dim → Array → Result Array ErrKind
+line_fn_of Any d a = Ok (any_of d a)
+line_fn_of All d a = Ok (all_true_of d a)
+line_fn_of (Sums mode) d a = cumsum_of mode d a
+
+-- along the default dimension, or along the one that is given
+abbrev pub along : LineFn → List Array → Result Array ErrKind
+along f args = with_one_or_two (λ a. line_fn_of f (default_dim (shape_of a)) a) (λ a d. unless_err (dim_asked d) (λ d. line_fn_of f d a)) args

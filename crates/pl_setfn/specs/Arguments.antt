@@ -1,5 +1,5 @@
 -- How many arguments a function takes, and arguments that stand for a number, a dimension or a stated text.
-use Rattle.std.specs.Prelude.{◌==◌, ℤ, pos, Bool, ◌&&◌, List, [], ◌∷◌, map, codes, Option, Some, None, Result, Err, if◌then◌else◌}
+use Rattle.std.specs.Prelude.{◌==◌, ℤ, pos, Bool, ◌&&◌, List, [], ◌∷◌, map, codes, Option, Some, None, Result, Ok, Err, if◌then◌else◌}
 use Rattle.std.specs.Ordering.{int_eq}
 use Rattle.std.specs.Cmp.Lexicographic.{pointwise}
 use Rattle.pl_base.specs.declared.errors.ErrKind.{ErrKind}
@@ -35,9 +35,14 @@ given kind (Some x) f = f x
 abbrev pub with_number : {X : Type 0} → Array → (ℤ → Result X ErrKind) → Result X ErrKind
 with_number a f = given NotScalar (single_of a) f
 
--- an argument that stands for a dimension
-abbrev pub with_dim : {X : Type 0} → Array → (Dim → Result X ErrKind) → Result X ErrKind
-with_dim a f = with_number a (λ z. given ArgRange (dim_of z) f)
+-- the dimension that an argument stands for
+abbrev pub dim_asked : Array → Result Dim ErrKind
+dim_asked a = with_number a (λ z. given ArgRange (dim_of z) (λ d. Ok d))
+
+-- with an answer, unless it is a refusal
+abbrev pub unless_err : {X Y : Type 0} → Result X ErrKind → (X → Result Y ErrKind) → Result Y ErrKind
+unless_err (Ok x) f = f x
+unless_err (Err kind) f = Err kind
 
 -- the array is this text: one row of chars
 abbrev pub is_text : List ℤ → Array → Bool

@@ -10,7 +10,8 @@ use Rattle.pl_setfn.specs.Arguments.{with_one, with_three}
 use Rattle.pl_setfn.specs.Finding.{find_of, nnz_of}
 use Rattle.pl_setfn.specs.Layout.{reshape_of, repmat_of, fliplr_of, flipud_of}
 use Rattle.pl_setfn.specs.Sorting.{in_asked_order, sort_cells, sort_sources, unique_of}
-use Rattle.pl_setfn.specs.Along.{along, any_of, all_true_of, cumsum_of}
+use Rattle.pl_setfn.specs.Along.{along}
+use Rattle.pl_setfn.specs.declared.along.LineFn.{LineFn}
 
 -- how many outputs a function has
 abbrev pub most_outputs : SetFn → ℕ
@@ -24,9 +25,9 @@ first_output mode Reshape args = with_three reshape_of args
 first_output mode Repmat args = with_three repmat_of args
 first_output mode Sort args = in_asked_order sort_cells args
 first_output mode Unique args = with_one (λ a. Ok (unique_of a)) args
-first_output mode Any args = along (λ d a. Ok (any_of d a)) args
-first_output mode All args = along (λ d a. Ok (all_true_of d a)) args
-first_output mode Cumsum args = along (cumsum_of mode) args
+first_output mode Any args = along LineFn.Any args
+first_output mode All args = along LineFn.All args
+first_output mode Cumsum args = along (LineFn.Sums mode) args
 first_output mode Fliplr args = with_one (λ a. Ok (fliplr_of a)) args
 first_output mode Flipud args = with_one (λ a. Ok (flipud_of a)) args
 first_output mode Nnz args = with_one (λ a. Ok (nnz_of a)) args

@@ -1,5 +1,6 @@
 -- The functions' names.
-use Rattle.std.specs.Prelude.{ℕ, List, Option, Some, None, codes, if◌then◌else◌, nat_eq}
+use Rattle.std.specs.Prelude.{ℕ, List, [], ◌∷◌, Option, codes, nat_eq}
+use Rattle.std.specs.List.{find}
 use Rattle.std.specs.Cmp.Lexicographic.{pointwise}
 use Rattle.pl_setfn.specs.declared.set_fn.SetFn.{SetFn}
 use Rattle.pl_setfn.specs.declared.set_fn.SetFn.TheVariants.{Find, Reshape, Repmat, Sort, Unique, Any, All, Cumsum, Fliplr, Flipud, Nnz}
@@ -17,3 +18,11 @@ name_of Cumsum = codes "cumsum"
 name_of Fliplr = codes "fliplr"
 name_of Flipud = codes "flipud"
 name_of Nnz = codes "nnz"
+
+-- all functions
+abbrev pub functions : List SetFn
+functions = Find ∷ Reshape ∷ Repmat ∷ Sort ∷ Unique ∷ Any ∷ All ∷ Cumsum ∷ Fliplr ∷ Flipud ∷ Nnz ∷ []
+
+-- the function with this name
+unfoldable pub fn_named : List ℕ → Option SetFn
+fn_named name = find (λ f. pointwise nat_eq (name_of f) name) functions

@@ -9,7 +9,7 @@
 
 mod along;
 mod arguments;
-
+mod call;
 mod finding;
 mod layout;
 mod order;
@@ -17,5 +17,6 @@ mod set_fn;
 mod sums;
 
 
+pub use call::{call_set, call_set_in};
 pub use order::Way;
 pub use set_fn::SetFn;

@@ -1,7 +1,9 @@
 //! The functions and their names.
 
-ghost use Rattle.std.specs.Prelude.{◌≡◌, ℕ, IfSome, IfNone};
-ghost use Rattle.pl_setfn.specs.Naming.{name_of};
+ghost use Rattle.std.specs.Prelude.{◌≡◌, ℕ, nat_eq};
+ghost use Rattle.std.specs.List.{find};
+ghost use Rattle.std.specs.Cmp.Lexicographic.{pointwise};
+ghost use Rattle.pl_setfn.specs.Naming.{name_of, fn_named};
 ghost use Rattle.pl_setfn.specs.Calls.{most_outputs};
 ghost use Rattle.pl_setfn.specs.declared.set_fn.SetFn.{SetFn};
 
@@ -21,7 +23,29 @@ pub enum SetFn {
     Nnz,
 }
 
+const FUNCTIONS: [SetFn; 11] = [
+    SetFn::Find,
+    SetFn::Reshape,
+    SetFn::Repmat,
+    SetFn::Sort,
+    SetFn::Unique,
+    SetFn::Any,
+    SetFn::All,
+    SetFn::Cumsum,
+    SetFn::Fliplr,
+    SetFn::Flipud,
+    SetFn::Nnz,
+];
+
 impl SetFn {
+    /// The function with this name.
+    #[tactic(auto, unfolding(crate::specs::Naming::fn_named))]
+    pub fn of(name: &[u8]) -> Option<SetFn>
+        ensures { result ≡ fn_named name.now }
+    {
+        named_in(&FUNCTIONS, name)
+    }
+
     /// The name by which a script calls it.
     pub fn name(self) -> &'static str
         ensures { result.now ≡ name_of self }
@@ -50,4 +74,16 @@ impl SetFn {
             _ => 1,
         }
     }
+}
+
+fn named_in(functions: &[SetFn], name: &[u8]) -> Option<SetFn>
+    ensures { result ≡ find (λ f. pointwise nat_eq (name_of f) name.now) functions.now }
+{
+    functions.iter().copied().find(|f| is_named(*f, name))
+}
+
+fn is_named(f: SetFn, name: &[u8]) -> bool
+    ensures { result ≡ pointwise nat_eq (name_of f) name.now }
+{
+    f.name().as_bytes() == name
 }
