@@ -1,5 +1,5 @@
 -- Cells that are read elsewhere are of the class, and as many as the shape wants.
-use Rattle.std.proofs.Common.{◌≡◌, ℕ, zero, suc, ◌+◌, ◌-◌, ◌*◌, ◌/◌, ◌%◌, ◌<◌, ℤ, pos, List, [], ◌∷◌, map, length, get_or, arith, ap, ◌∙◌, sym, subst}
+use Rattle.std.proofs.Common.{◌≡◌, ℕ, zero, suc, ◌+◌, ◌*◌, ◌/◌, ◌%◌, ℤ, pos, List, [], ◌∷◌, length, get_or, arith, ap, ◌∙◌}
 use Rattle.std.specs.List.{All, range_with_len}
 use Rattle.std.proofs.lemmas.List.FromFn.{length-map-range_with_len}
 use Rattle.std.proofs.lemmas.List.Elements.{All-map, All-same, All-head, All-tail}
@@ -8,7 +8,7 @@ use Rattle.pl_array.specs.declared.class.Shape.{Shape}
 use Rattle.pl_array.specs.declared.class.Class.{Class}
 use Rattle.pl_array.specs.declared.class.Class.TheVariants.{Logical, Int, Char}
 use Rattle.pl_array.specs.Joining.{by_places}
-use Rattle.pl_setfn.specs.Layout.{laid_out, fliplr_of, flipud_of}
+use Rattle.pl_setfn.specs.Layout.{laid_out}
 
 zero_is_cell : (class : Class) → IsCell class (pos 0)
 zero_is_cell Logical = (omega arith, omega arith)

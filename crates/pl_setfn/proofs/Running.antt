@@ -1,6 +1,6 @@
 -- A running sum goes on from the one before it.
-use Rattle.std.proofs.Common.{◌≡◌, ℕ, zero, suc, ◌+◌, ◌-◌, ◌*◌, ◌/◌, ◌%◌, ◌<◌, ◌≤◌, ◌==◌, ℤ, pos, List, [], ◌∷◌, map, length, get_or, take, Option, Some, None, Bool, true, false, cond, arith, refl, ap, ap₂, sym, ◌∙◌}
-use Rattle.std.specs.List.{fold, range_with_len}
+use Rattle.std.proofs.Common.{◌≡◌, ℕ, zero, suc, ◌+◌, ◌-◌, ◌*◌, ◌/◌, ◌%◌, ◌<◌, ◌==◌, ℤ, pos, List, [], ◌∷◌, map, length, get_or, take, Option, Some, None, Bool, false, cond, arith, refl, ap, ap₂, sym, ◌∙◌, subst}
+use Rattle.std.specs.List.{range_with_len}
 use Rattle.std.specs.Prelude.{option_map}
 use Rattle.std.proofs.lemmas.List.Sums.{fold_more}
 use Rattle.std.proofs.lemmas.List.FromFn.{length-map-range_with_len, get_or-map-range_with_len}
@@ -10,6 +10,7 @@ use Rattle.std.proofs.lemmas.Bool.Decides.{nat_tests}
 use Rattle.pl_base.specs.declared.mode.Mode.{Mode}
 use Rattle.pl_array.specs.Arrays.{Array}
 use Rattle.pl_array.specs.Cellwise.{shape_of}
+use Rattle.pl_array.specs.declared.class.Shape.{Shape}
 use Rattle.pl_lines.specs.declared.dim.Dim.{Dim}
 use Rattle.pl_lines.specs.declared.dim.Dim.TheVariants.{Down, Across}
 use Rattle.pl_lines.specs.Lines.{cell_along, line, extent}
@@ -112,11 +113,18 @@ in_line Down a k some h = mod_below k a.rows some
 in_line Across a k some h = div_below k a.rows a.cols some (omega arith)
 
 -- one more running sum
-pub running_on : (mode : Mode) (d : Dim) (a : Array) (k : ℕ) (sums : List ℤ) (before x : ℤ) → 0 < a.rows → k < a.rows * a.cols → all_of (map (running mode d a) (range_with_len 0 k)) ≡ Some sums → before ≡ cond (index_at d (shape_of a) k == 0) (pos 0) (get_or sums (k - stride d (shape_of a)) (pos 0)) → x ≡ get_or a.cells k (pos 0) → running mode d a k ≡ added mode before x
+running_on : (mode : Mode) (d : Dim) (a : Array) (k : ℕ) (sums : List ℤ) (before x : ℤ) → 0 < a.rows → k < a.rows * a.cols → all_of (map (running mode d a) (range_with_len 0 k)) ≡ Some sums → before ≡ cond (index_at d (shape_of a) k == 0) (pos 0) (get_or sums (k - stride d (shape_of a)) (pos 0)) → x ≡ get_or a.cells k (pos 0) → running mode d a k ≡ added mode before x
 running_on mode d a k sums before x some h all e is =
     one_cell_on mode d a (line_at d (shape_of a) k) (index_at d (shape_of a) k) before x (in_line d a k some h)
     (before_is mode d a k sums some all ∙ ap Some (sym e)) (at_place d a k ∙ sym is)
 
-pub some_rows : (rows cols k : ℕ) → k < rows * cols → 0 < rows
+some_rows : (rows cols k : ℕ) → k < rows * cols → 0 < rows
 some_rows zero cols k h = absurd (omega arith)
 some_rows (suc rows) cols k h = omega arith
+
+-- the same, in terms of what is at hand in the pass over the cells
+pub next_sum : (mode : Mode) (d : Dim) (a : Array) (k : ℕ) (s : Shape) (sums known cells : List ℤ) (b before cell : ℤ) (r : Option ℤ) → s ≡ shape_of a → k < s.rows * s.cols → all_of (map (running mode d a) (range_with_len 0 k)) ≡ Some sums → known ≡ sums → cells ≡ a.cells → b ≡ cond (index_at d s k == 0) (pos 0) (get_or known (k - stride d s) (pos 0)) → before ≡ b → cell ≡ get_or cells k (pos 0) → r ≡ added mode before cell → running mode d a k ≡ r
+next_sum mode d a k s sums known cells b before cell r es within all ek ec eb ebb ecell er =
+    let inside : k < a.rows * a.cols = subst (λ (t : Shape). k < t.rows * t.cols) es within in
+    let is : before ≡ cond (index_at d (shape_of a) k == 0) (pos 0) (get_or sums (k - stride d (shape_of a)) (pos 0)) = ebb ∙ eb ∙ ap₂ (λ (t : Shape) (zs : List ℤ). cond (index_at d t k == 0) (pos 0) (get_or zs (k - stride d t) (pos 0))) es ek in
+    running_on mode d a k sums before cell (some_rows a.rows a.cols k inside) inside all is (ecell ∙ ap (λ (zs : List ℤ). get_or zs k (pos 0)) ec) ∙ sym er

@@ -1,11 +1,9 @@
 -- How many arguments a function takes, and arguments that stand for a number, a dimension or a stated text.
-use Rattle.std.specs.Prelude.{◌==◌, ℤ, pos, Bool, ◌&&◌, List, [], ◌∷◌, map, codes, Option, Some, None, Result, Ok, Err, if◌then◌else◌}
+use Rattle.std.specs.Prelude.{◌==◌, ℤ, pos, Bool, ◌&&◌, List, [], ◌∷◌, map, codes, Option, Some, None, Result, Ok, Err}
 use Rattle.std.specs.Ordering.{int_eq}
 use Rattle.std.specs.Cmp.Lexicographic.{pointwise}
 use Rattle.pl_base.specs.declared.errors.ErrKind.{ErrKind}
-use Rattle.pl_base.specs.declared.errors.ErrKind.TheVariants.{ArgCount, ArgClass, ArgRange, NotScalar}
-use Rattle.pl_array.specs.declared.class.Class.{Class}
-use Rattle.pl_array.specs.declared.class.Class.TheVariants.{Char}
+use Rattle.pl_base.specs.declared.errors.ErrKind.TheVariants.{ArgCount, ArgRange, NotScalar}
 use Rattle.pl_array.specs.Arrays.{Array, class_number, single_of}
 use Rattle.pl_lines.specs.declared.dim.Dim.{Dim}
 use Rattle.pl_lines.specs.Lines.{dim_of}

@@ -14,7 +14,9 @@ static DESCEND: [i64; 7] = [100, 101, 115, 99, 101, 110, 100];
 pub(crate) fn is_descend(a: &Arr) -> bool
     ensures { result ≡ is_text descend a.now }
 {
-    a.class().number() == Class::Char.number() && a.shape().rows == 1 && a.cells() == DESCEND.as_slice()
+    a.class().number() == Class::Char.number()
+        && a.shape().rows == 1
+        && a.cells() == DESCEND.as_slice()
 }
 
 /// The dimension that an argument stands for.

@@ -48,12 +48,7 @@ pub fn call_set_in(
     }
 }
 
-fn give_first(
-    alloc: Global,
-    mode: Mode,
-    f: SetFn,
-    args: &[Arr],
-) -> Result<Vec<Arr>, Or<ErrKind>>
+fn give_first(alloc: Global, mode: Mode, f: SetFn, args: &[Arr]) -> Result<Vec<Arr>, Or<ErrKind>>
     ensures ok { IfOk result (λ v. alone (first_output mode f args.now) ≡ Ok v.items) }
     ensures err { (kind : ErrKind) → result ≡ Err (Or.Is kind) → alone (first_output mode f args.now) ≡ Err kind }
 {
@@ -63,12 +58,7 @@ fn give_first(
     Ok(outputs)
 }
 
-fn first_output(
-    alloc: Global,
-    mode: Mode,
-    f: SetFn,
-    args: &[Arr],
-) -> Result<Arr, Or<ErrKind>>
+fn first_output(alloc: Global, mode: Mode, f: SetFn, args: &[Arr]) -> Result<Arr, Or<ErrKind>>
     ensures ok { IfOk result (λ o. first_output mode f args.now ≡ Ok o) }
     ensures err { (kind : ErrKind) → result ≡ Err (Or.Is kind) → first_output mode f args.now ≡ Err kind }
 {

@@ -16,7 +16,5 @@ mod order;
 mod set_fn;
 mod sums;
 
-
 pub use call::{call_set, call_set_in};
-pub use order::Way;
 pub use set_fn::SetFn;

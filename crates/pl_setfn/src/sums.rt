@@ -39,8 +39,16 @@ fn sum_before(d: Dim, s: Shape, sums: &[i64], k: u32) -> i64
     ensures { result ≡ (if index_at d s k == 0 then pos 0 else slice_index_or sums.now (k - stride d s) (pos 0)) }
 {
     match d {
-        Dim::Down => if k % s.rows == 0 { 0 } else { sums[k as usize - 1] },
-        Dim::Across => if k < s.rows { 0 } else { sums[k as usize - s.rows as usize] },
+        Dim::Down => if k % s.rows == 0 {
+            0
+        } else {
+            sums[k as usize - 1]
+        },
+        Dim::Across => if k < s.rows {
+            0
+        } else {
+            sums[k as usize - s.rows as usize]
+        },
     }
 }
 

@@ -1,5 +1,5 @@
 -- Each cell of the answer is one of the argument's.
-use Rattle.std.proofs.Common.{ℕ, ◌-◌, ◌*◌, ◌%◌, List, ℤ, ap, sym, ◌∙◌, subst}
+use Rattle.std.proofs.Common.{ℕ, ◌-◌, ◌*◌, ap, sym, ◌∙◌, subst}
 use Rattle.std.specs.List.{All}
 use Rattle.pl_array.specs.Arrays.{IsCell}
 use Rattle.pl_array.specs.Cellwise.{shape_of}

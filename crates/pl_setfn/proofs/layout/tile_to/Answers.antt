@@ -1,10 +1,8 @@
 -- Each cell of the answer is one of the argument's.
-use Rattle.std.proofs.Common.{ℕ, ◌-◌, ◌*◌, ◌%◌, List, ℤ, ap, sym, ◌∙◌, subst}
+use Rattle.std.proofs.Common.{ℕ, ◌%◌, sym, subst}
 use Rattle.std.specs.List.{All}
 use Rattle.pl_array.specs.Arrays.{IsCell}
-use Rattle.pl_array.specs.Cellwise.{shape_of}
 use Rattle.pl_array.specs.declared.class.Class.{Class}
-use Rattle.pl_array.specs.declared.class.Shape.{Shape}
 use Rattle.pl_setfn.proofs.Laid.{laid_fills}
 use Rattle.pl_setfn.proofs.layout.tile_to.Goals as goal
 
