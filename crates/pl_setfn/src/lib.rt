@@ -18,3 +18,6 @@ mod sums;
 
 pub use call::{call_set, call_set_in};
 pub use set_fn::SetFn;
+
+#[cfg(test)]
+mod tests;
