@@ -3,3 +3,4 @@ mod Laid
 mod InOrder
 mod AllTrue
 mod Running
+mod Distinct

@@ -18,7 +18,7 @@ mod set_fn;
 mod sums;
 
 pub use call::{call_set, call_set_in};
-pub use laws::in_order_is_a_stable_sort;
+pub use laws::{distinct_cells_rise, in_order_is_a_stable_sort, names_differ};
 pub use order::Way;
 pub use set_fn::SetFn;
 
