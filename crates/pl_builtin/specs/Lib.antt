@@ -1,0 +1,6 @@
+pub mod Names
+pub mod Rules
+pub mod Pairs
+pub mod Arguments
+pub mod Asking
+pub mod Making

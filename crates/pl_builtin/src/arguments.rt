@@ -1,0 +1,42 @@
+//! What the arguments stand for: a number alone, an extent, a stated text.
+//!
+//! Promised: each is its definition, and the refusal comes exactly where the argument stands for nothing of its kind.
+
+ghost use Rattle.std.specs.Prelude.{◌≡◌, map, pos};
+ghost use Rattle.std.specs.Ordering.{int_eq};
+ghost use Rattle.std.specs.Cmp.Lexicographic.{pointwise};
+ghost use Rattle.pl_builtin.specs.Arguments.{one_number, extent, is_text};
+
+use pl_array::Arr;
+use pl_base::ErrKind;
+
+/// The number of a 1x1 argument of any class.
+pub(crate) fn one_number(a: &Arr) -> Result<i64, ErrKind>
+    ensures { result ≡ one_number a.now }
+{
+    match a.single() {
+        Some(z) => Ok(z),
+        None => Err(ErrKind::NotScalar),
+    }
+}
+
+/// How many rows or columns a number asks for, and a number past all limits where it is far past them.
+pub(crate) fn extent(z: i64) -> u64
+    ensures { result ≡ extent z }
+{
+    if z < 0 { 0 } else { z.unsigned_abs() }
+}
+
+/// Whether the argument is a char row of these bytes.
+pub(crate) fn is_text(a: &Arr, text: &[u8]) -> bool
+    ensures { result ≡ is_text text.now a.now }
+{
+    let is_row = a.class().number() == 2 && a.shape().rows == 1;
+    is_row && has_bytes(a.cells(), text)
+}
+
+fn has_bytes(cells: &[i64], text: &[u8]) -> bool
+    ensures { result ≡ pointwise int_eq (map pos text.now) cells.now }
+{
+    cells.len() == text.len() && cells.iter().zip(text.iter()).all(|(z, b)| *z == i64::from(*b))
+}
