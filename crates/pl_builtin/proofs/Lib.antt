@@ -1,2 +1,4 @@
 mod Sizes
 mod Cells
+mod FirstBest
+mod Lines

@@ -4,3 +4,5 @@ pub mod Pairs
 pub mod Arguments
 pub mod Asking
 pub mod Making
+pub mod Along
+pub mod Calling

@@ -3,6 +3,7 @@
 //! Promised: each is its definition, and the refusal comes exactly where the argument stands for nothing of its kind.
 
 ghost use Rattle.std.specs.Prelude.{◌≡◌, map, pos};
+ghost use Rattle.std.specs.List.{list_all, zip};
 ghost use Rattle.std.specs.Ordering.{int_eq};
 ghost use Rattle.std.specs.Cmp.Lexicographic.{pointwise};
 ghost use Rattle.pl_builtin.specs.Arguments.{one_number, extent, is_text};
@@ -35,8 +36,17 @@ pub(crate) fn is_text(a: &Arr, text: &[u8]) -> bool
     is_row && has_bytes(a.cells(), text)
 }
 
+#[tactic(auto, using(crate::proofs::Cells::bytes_are))]
 fn has_bytes(cells: &[i64], text: &[u8]) -> bool
     ensures { result ≡ pointwise int_eq (map pos text.now) cells.now }
 {
-    cells.len() == text.len() && cells.iter().zip(text.iter()).all(|(z, b)| *z == i64::from(*b))
+    cells.len() == text.len() && agree(text, cells)
+}
+
+fn agree(text: &[u8], cells: &[i64]) -> bool
+    ensures { result ≡ list_all (λ p. int_eq (pos p.0) p.1) (zip text.now cells.now) }
+{
+    text.iter()
+        .zip(cells.iter())
+        .all(|(b, z)| i64::from(*b) == *z)
 }

@@ -61,14 +61,25 @@ pub(crate) fn size(alloc: Global, a: &Arr) -> Result<Arr, NoMemory>
     Ok(Arr::new(Class::Int, Shape { rows: 1, cols: 2 }, cells))
 }
 
-/// The extent of dimension 1 or 2.
-pub(crate) fn size_along(a: &Arr, d: &Arr) -> Result<Arr, ErrKind>
-    ensures { result ≡ size_along a.now d.now }
+/// The extent of the dimension that an argument names.
+pub(crate) fn size_along(a: &Arr, d: &Arr) -> Result<Arr, Or<ErrKind>>
+    ensures ok { IfOk result (λ o. size_along a.now d.now ≡ Ok o) }
+    ensures err { (kind : ErrKind) → result ≡ Err (Or.Is kind) → size_along a.now d.now ≡ Err kind }
 {
-    match one_number(d)? {
+    match one_number(d) {
+        Ok(z) => extent_along(a, z),
+        Err(kind) => Err(Or::Is(kind)),
+    }
+}
+
+fn extent_along(a: &Arr, d: i64) -> Result<Arr, Or<ErrKind>>
+    ensures ok { IfOk result (λ o. extent_along a.now d ≡ Ok o) }
+    ensures err { (kind : ErrKind) → result ≡ Err (Or.Is kind) → extent_along a.now d ≡ Err kind }
+{
+    match d {
         1 => Ok(count(a.shape().rows)),
         2 => Ok(count(a.shape().cols)),
-        _ => Err(ErrKind::ArgRange),
+        _ => Err(Or::Is(ErrKind::ArgRange)),
     }
 }
 

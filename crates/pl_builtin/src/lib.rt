@@ -3,9 +3,13 @@
 
 mod arguments;
 mod asking;
+mod calling;
+mod extremes;
 mod making;
 mod name;
 mod pairs;
 mod rules;
+mod totals;
 
+pub use calling::{call, call_in};
 pub use name::Builtin;
