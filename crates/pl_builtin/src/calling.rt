@@ -49,12 +49,7 @@ pub fn call_in(
     }
 }
 
-fn give_one(
-    alloc: Global,
-    mode: Mode,
-    f: Builtin,
-    args: &[Arr],
-) -> Result<Vec<Arr>, Or<ErrKind>>
+fn give_one(alloc: Global, mode: Mode, f: Builtin, args: &[Arr]) -> Result<Vec<Arr>, Or<ErrKind>>
     ensures ok { IfOk result (λ v. one_answer mode f args.now ≡ Ok v.items) }
     ensures err { (kind : ErrKind) → result ≡ Err (Or.Is kind) → one_answer mode f args.now ≡ Err kind }
 {

@@ -13,3 +13,6 @@ mod totals;
 
 pub use calling::{call, call_in};
 pub use name::Builtin;
+
+#[cfg(test)]
+mod tests;

@@ -121,13 +121,7 @@ fn dimension(a: &Arr) -> Result<Dim, ErrKind>
     }
 }
 
-fn total_lines(
-    alloc: Global,
-    mode: Mode,
-    total: Total,
-    a: &Arr,
-    d: Dim,
-) -> Result<Arr, Or<ErrKind>>
+fn total_lines(alloc: Global, mode: Mode, total: Total, a: &Arr, d: Dim) -> Result<Arr, Or<ErrKind>>
     ensures ok { IfOk result (λ o. total_along mode total d a.now ≡ Ok o) }
     ensures err { (kind : ErrKind) → result ≡ Err (Or.Is kind) → total_along mode total d a.now ≡ Err kind }
 {
