@@ -1,6 +1,6 @@
 -- The cells of an answer: their count and their class.
-use Rattle.std.proofs.Common.{◌≡◌, ℕ, suc, ◌*◌, ◌<◌, ℤ, pos, Bool, false, ◌||◌, ◌&&◌, map, get_or, arith, List, [], ◌∷◌, length, refl, ap, ◌∙◌}
-use Rattle.std.specs.List.{All, range_with_len, list_any, list_all, zip}
+use Rattle.std.proofs.Common.{◌≡◌, ℕ, ◌*◌, ◌<◌, ℤ, pos, Bool, false, ◌&&◌, map, get_or, arith, List, [], ◌∷◌, length, refl, ap, ◌∙◌}
+use Rattle.std.specs.List.{All, list_any, list_all, zip}
 use Rattle.std.proofs.lemmas.List.FromFn.{length-map-range_with_len}
 use Rattle.std.specs.Ordering.{int_eq}
 use Rattle.std.specs.Cmp.Lexicographic.{pointwise}

@@ -1,6 +1,5 @@
 -- One cell for each line fills the shape of the answer.
-use Rattle.std.proofs.Common.{◌≡◌, ℕ, ◌*◌, ℤ, List, length, map, arith, ap, ◌∙◌}
-use Rattle.std.specs.List.{range_with_len}
+use Rattle.std.proofs.Common.{◌≡◌, ◌*◌, ℤ, List, length, map, arith, ap, ◌∙◌}
 use Rattle.std.proofs.lemmas.List.{length-map}
 use Rattle.std.proofs.lemmas.List.FromFn.{length-map-range_with_len}
 use Rattle.pl_array.specs.declared.class.Shape.{Shape}

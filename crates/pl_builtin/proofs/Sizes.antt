@@ -1,11 +1,10 @@
 -- Shifts by 64 and more, and quotients of numbers that aren't the least.
-use Rattle.std.proofs.Common.{◌≡◌, ◌≢◌, ℕ, zero, suc, ◌+◌, ◌-◌, ◌*◌, ◌/◌, ◌%◌, ◌^◌, ◌<◌, ◌≤◌, ℤ, pos, negsuc, neg_ℤ, unsigned_abs, int_lt, bit_or, min, Bool, true, false, not, FitsSigned, w64, refl, ap, sym, ◌∙◌, arith, le_trans, pow_mono, cond}
+use Rattle.std.proofs.Common.{◌≡◌, ◌≢◌, ℕ, zero, suc, ◌+◌, ◌-◌, ◌*◌, ◌/◌, ◌^◌, ◌<◌, ◌≤◌, ℤ, pos, negsuc, neg_ℤ, unsigned_abs, int_lt, bit_or, min, Bool, true, false, refl, sym, arith, pow_mono, cond}
 use Rattle.std.specs.Int.{div_ceil}
 use Rattle.std.specs.Ordering.{int_eq}
 use Rattle.std.proofs.lemmas.Int.{ints}
-use Rattle.std.proofs.lemmas.Bool.Decides.{nat_tests}
 use Rattle.std.proofs.lemmas.Nat.{or_lt}
-use Rattle.std.proofs.Math.Nat.{div-le_self, div-eq_of_lt, le-mul_of_pos_right, div-lt_iff_lt-mul, mul-le-mul_left}
+use Rattle.std.proofs.Math.Nat.{div-le_self, div-eq_of_lt, div-lt_iff_lt-mul}
 use Rattle.pl_base.specs.Numbers.{clamp, nearest, quotient}
 use Rattle.pl_builtin.specs.declared.rules.Rounding.{Rounding}
 use Rattle.pl_builtin.specs.declared.rules.Rounding.TheVariants.{Fix, Floor, Ceil, Round}

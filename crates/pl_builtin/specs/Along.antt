@@ -1,5 +1,5 @@
 -- What the functions along lines answer: sums and products, and the least and the greatest of each line.
-use Rattle.std.specs.Prelude.{ℕ, ◌+◌, ℤ, pos, int_lt, Bool, not, ◌==◌, List, [], ◌∷◌, map, slice_index_or, Option, Some, None, Result, Ok, Err, if◌then◌else◌}
+use Rattle.std.specs.Prelude.{ℕ, ◌+◌, ℤ, pos, int_lt, Bool, not, ◌==◌, List, [], map, slice_index_or, Option, Some, None, Result, Ok, Err, if◌then◌else◌}
 use Rattle.std.specs.List.{list_any, position_or_len}
 use Rattle.pl_base.specs.declared.mode.Mode.{Mode}
 use Rattle.pl_base.specs.declared.errors.ErrKind.{ErrKind}

@@ -1,9 +1,11 @@
 -- The arguments: a number, a dimension, an extent, a stated text.
-use Rattle.std.specs.Prelude.{ℕ, zero, suc, ℤ, pos, negsuc, ◌==◌, Bool, ◌&&◌, List, map, Option, Some, None, Result, Ok, Err, if◌then◌else◌}
+use Rattle.std.specs.Prelude.{ℕ, ℤ, pos, negsuc, ◌==◌, Bool, ◌&&◌, List, map, Option, Some, None, Result, Ok, Err}
 use Rattle.std.specs.Ordering.{int_eq}
 use Rattle.std.specs.Cmp.Lexicographic.{pointwise}
 use Rattle.pl_base.specs.declared.errors.ErrKind.{ErrKind}
-use Rattle.pl_base.specs.declared.errors.ErrKind.TheVariants.{NotScalar, ArgRange}
+use Rattle.pl_base.specs.declared.errors.ErrKind.TheVariants.{NotScalar}
+use Rattle.pl_array.specs.declared.class.Class.{Class}
+use Rattle.pl_array.specs.declared.class.Class.TheVariants.{Char}
 use Rattle.pl_array.specs.Arrays.{Array, class_number, single_of}
 
 -- a number that stands alone
@@ -25,6 +27,10 @@ abbrev pub extent : ℤ → ℕ
 extent (pos n) = n
 extent (negsuc n) = 0
 
+-- an array of this class
+abbrev pub is_of : Class → Array → Bool
+is_of class a = class_number a.class == class_number class
+
 -- a char row with the bytes of a text
 abbrev pub is_text : List ℕ → Array → Bool
-is_text text a = class_number a.class == 2 && (a.rows == 1) && pointwise int_eq (map pos text) a.cells
+is_text text a = is_of Char a && a.rows == 1 && pointwise int_eq (map pos text) a.cells

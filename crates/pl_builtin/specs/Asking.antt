@@ -1,12 +1,12 @@
 -- What the functions that ask about arrays answer.
-use Rattle.std.specs.Prelude.{ℕ, ◌+◌, ◌*◌, ℤ, pos, ◌==◌, Bool, ◌&&◌, ◌||◌, List, [], ◌∷◌, map, length, codes, max, Result, Ok, Err, if◌then◌else◌}
+use Rattle.std.specs.Prelude.{ℕ, ℤ, pos, ◌==◌, Bool, ◌&&◌, ◌||◌, List, [], ◌∷◌, map, length, codes, max, Result, Ok, Err, if◌then◌else◌}
 use Rattle.std.specs.Ordering.{int_eq}
 use Rattle.std.specs.Cmp.Lexicographic.{pointwise}
 use Rattle.pl_base.specs.declared.errors.ErrKind.{ErrKind}
 use Rattle.pl_base.specs.declared.errors.ErrKind.TheVariants.{ArgRange}
 use Rattle.pl_array.specs.declared.class.Class.{Class}
 use Rattle.pl_array.specs.declared.class.Class.TheVariants.{Logical, Int, Char}
-use Rattle.pl_array.specs.Arrays.{Array, class_number}
+use Rattle.pl_array.specs.Arrays.{Array}
 use Rattle.pl_array.specs.Cellwise.{truth}
 use Rattle.pl_builtin.specs.Arguments.{bind, one_number}
 
@@ -39,9 +39,6 @@ size_along a d = bind (one_number d) (extent_along a)
 -- equal shapes and numbers
 abbrev pub are_equal : Array → Array → Bool
 are_equal a b = a.rows == b.rows && a.cols == b.cols && pointwise int_eq a.cells b.cells
-
-abbrev pub is_of : Class → Array → Bool
-is_of class a = class_number a.class == class_number class
 
 -- one row or one column
 abbrev pub is_vector : Array → Bool

@@ -1,5 +1,5 @@
 -- What a call of a function answers: one table for each number of arguments.
-use Rattle.std.specs.Prelude.{ℕ, ℤ, ◌==◌, Bool, ◌&&◌, List, [], ◌∷◌, length, codes, Option, Some, None, Result, Ok, Err, if◌then◌else◌, nat_le}
+use Rattle.std.specs.Prelude.{ℕ, ℤ, ◌==◌, ◌&&◌, List, [], ◌∷◌, length, codes, Result, Ok, Err, if◌then◌else◌, nat_le}
 use Rattle.pl_base.specs.Numbers.{greatest, least}
 use Rattle.pl_base.specs.declared.mode.Mode.{Mode}
 use Rattle.pl_base.specs.declared.errors.ErrKind.{ErrKind}
@@ -18,10 +18,10 @@ use Rattle.pl_builtin.specs.declared.rules.Bits.{Bits}
 use Rattle.pl_builtin.specs.declared.rules.Rule.{Rule}
 use Rattle.pl_builtin.specs.declared.totals.Total.{Total}
 use Rattle.pl_builtin.specs.declared.extremes.Extreme.{Extreme}
-use Rattle.pl_builtin.specs.Arguments.{bind, is_text}
+use Rattle.pl_builtin.specs.Arguments.{bind, is_of, is_text}
 use Rattle.pl_builtin.specs.Along.{total_of, total_by, extreme_of, place_of}
-use Rattle.pl_builtin.specs.Asking.{single, answer, length_of, size_of, size_along, are_equal, is_of, is_vector, is_single, class_name, text_row}
-use Rattle.pl_builtin.specs.Making.{made, shape_for, square_of, block_of}
+use Rattle.pl_builtin.specs.Asking.{single, answer, length_of, size_of, size_along, are_equal, is_vector, is_single, class_name, text_row}
+use Rattle.pl_builtin.specs.Making.{made, square_of, block_of}
 use Rattle.pl_builtin.specs.Pairs.{pairs_of, bits_of}
 
 -- one end of the numbers, of the class that the argument names

@@ -1,5 +1,5 @@
 -- What the functions that make arrays answer.
-use Rattle.std.specs.Prelude.{ℕ, ◌*◌, ◌/◌, ◌%◌, ℤ, pos, ◌==◌, Bool, List, replicate, Result, Ok, Err, if◌then◌else◌}
+use Rattle.std.specs.Prelude.{◌*◌, ◌/◌, ◌%◌, ℤ, pos, ◌==◌, replicate, Result, Ok, Err, if◌then◌else◌}
 use Rattle.pl_base.specs.declared.errors.ErrKind.{ErrKind}
 use Rattle.pl_base.specs.declared.errors.ErrKind.TheVariants.{SizeLimit}
 use Rattle.pl_array.specs.declared.class.Class.{Class}

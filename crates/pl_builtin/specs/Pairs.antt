@@ -1,9 +1,9 @@
 -- What `idivide` and the functions of bits answer.
-use Rattle.std.specs.Prelude.{ℕ, zero, ℤ, pos, negsuc, int_lt, Bool, ◌||◌, List, Option, Some, None, Result, Ok, Err, if◌then◌else◌}
+use Rattle.std.specs.Prelude.{ℤ, pos, negsuc, int_lt, Bool, ◌||◌, Result, Ok, Err, if◌then◌else◌}
 use Rattle.std.specs.List.{list_any}
 use Rattle.pl_base.specs.declared.mode.Mode.{Mode}
 use Rattle.pl_base.specs.declared.errors.ErrKind.{ErrKind}
-use Rattle.pl_base.specs.declared.errors.ErrKind.TheVariants.{ArgClass, ArgRange, Overflow}
+use Rattle.pl_base.specs.declared.errors.ErrKind.TheVariants.{ArgRange, Overflow}
 use Rattle.pl_array.specs.declared.class.Class.TheVariants.{Int}
 use Rattle.pl_array.specs.declared.class.Shape.{Shape}
 use Rattle.pl_array.specs.Arrays.{Array}

@@ -1,5 +1,5 @@
 -- The numbers that `idivide` and the functions of bits make of two numbers.
-use Rattle.std.specs.Prelude.{ℕ, zero, suc, ◌*◌, ◌/◌, ◌^◌, ℤ, pos, negsuc, neg_ℤ, unsigned_abs, int_lt, Bool, true, false, not, ◌||◌, bit_and, bit_or, bit_xor, if◌then◌else◌}
+use Rattle.std.specs.Prelude.{ℕ, suc, ◌*◌, ◌/◌, ◌^◌, ℤ, pos, negsuc, neg_ℤ, unsigned_abs, int_lt, Bool, true, false, not, ◌||◌, bit_and, bit_or, bit_xor, if◌then◌else◌}
 use Rattle.std.specs.Int.{div_ceil}
 use Rattle.std.specs.Ordering.{int_eq}
 use Rattle.pl_base.specs.Numbers.{clamp, quotient}

@@ -6,9 +6,9 @@ ghost use Rattle.std.specs.Prelude.{◌≡◌, map, pos};
 ghost use Rattle.std.specs.List.{list_all, zip};
 ghost use Rattle.std.specs.Ordering.{int_eq};
 ghost use Rattle.std.specs.Cmp.Lexicographic.{pointwise};
-ghost use Rattle.pl_builtin.specs.Arguments.{one_number, extent, is_text};
+ghost use Rattle.pl_builtin.specs.Arguments.{one_number, extent, is_of, is_text};
 
-use pl_array::Arr;
+use pl_array::{Arr, Class};
 use pl_base::ErrKind;
 
 /// The number of a 1x1 argument of any class.
@@ -28,12 +28,18 @@ pub(crate) fn extent(z: i64) -> u64
     if z < 0 { 0 } else { z.unsigned_abs() }
 }
 
+/// Whether the argument is of a class.
+pub(crate) fn is_of(class: Class, a: &Arr) -> bool
+    ensures { result ≡ is_of class a.now }
+{
+    a.class().number() == class.number()
+}
+
 /// Whether the argument is a char row of these bytes.
 pub(crate) fn is_text(a: &Arr, text: &[u8]) -> bool
     ensures { result ≡ is_text text.now a.now }
 {
-    let is_row = a.class().number() == 2 && a.shape().rows == 1;
-    is_row && has_bytes(a.cells(), text)
+    is_of(Class::Char, a) && a.shape().rows == 1 && has_bytes(a.cells(), text)
 }
 
 #[tactic(auto, using(crate::proofs::Cells::bytes_are))]

@@ -7,7 +7,7 @@ ghost use Rattle.std.specs.Ordering.{int_eq};
 ghost use Rattle.std.specs.Cmp.Lexicographic.{pointwise};
 ghost use Rattle.pl_array.specs.Arrays.{most};
 ghost use Rattle.pl_builtin.specs.Arguments.{bind};
-ghost use Rattle.pl_builtin.specs.Asking.{single, answer, length_of, size_of, extent_along, size_along, are_equal, is_of, is_vector, is_single, class_name, text_row};
+ghost use Rattle.pl_builtin.specs.Asking.{single, answer, length_of, size_of, extent_along, size_along, are_equal, is_vector, is_single, class_name, text_row};
 
 use crate::arguments::one_number;
 use pl_array::{Arr, Class, Shape};
@@ -88,12 +88,6 @@ pub(crate) fn are_equal(a: &Arr, b: &Arr) -> bool
     ensures { result ≡ are_equal a.now b.now }
 {
     a.shape() == b.shape() && a.cells() == b.cells()
-}
-
-pub(crate) fn is_of(class: Class, a: &Arr) -> bool
-    ensures { result ≡ is_of class a.now }
-{
-    a.class().number() == class.number()
 }
 
 /// Whether there is one row or one column.

@@ -6,11 +6,12 @@
 //! arrays of two dimensions and three classes; docs/LANGUAGE.md says where this project's rules are its own.
 
 ghost use Rattle.std.specs.Prelude.{◌≡◌, ◌&&◌, IfOk};
-ghost use Rattle.pl_builtin.specs.Asking.{is_of, are_equal};
+ghost use Rattle.pl_builtin.specs.Arguments.{is_of};
+ghost use Rattle.pl_builtin.specs.Asking.{are_equal};
 ghost use Rattle.pl_builtin.specs.Calling.{end_of, rounding_of, with_none, with_one, with_two, with_three, first_output, first_of_two, second_output, one_answer, two_answers, call_of};
 
-use crate::arguments::is_text;
-use crate::asking::{self, answer, are_equal, count, is_of, is_single, is_vector};
+use crate::arguments::{is_of, is_text};
+use crate::asking::{self, answer, are_equal, count, is_single, is_vector};
 use crate::extremes::{Extreme, extreme_cells, extreme_places};
 use crate::making::{Fill, block, make, square};
 use crate::name::Builtin;
