@@ -1,5 +1,5 @@
 -- What the functions along lines answer: sums and products, and the least and the greatest of each line.
-use Rattle.std.specs.Prelude.{ℕ, ◌+◌, ℤ, pos, int_lt, Bool, not, ◌==◌, List, [], map, slice_index_or, Option, Some, None, Result, Ok, Err, if◌then◌else◌}
+use Rattle.std.specs.Prelude.{ℕ, ◌+◌, ℤ, pos, int_lt, Bool, not, ◌==◌, List, [], ◌∷◌, map, slice_index_or, Option, Some, None, Result, Ok, Err, if◌then◌else◌}
 use Rattle.std.specs.List.{list_any, position_or_len}
 use Rattle.pl_base.specs.declared.mode.Mode.{Mode}
 use Rattle.pl_base.specs.declared.errors.ErrKind.{ErrKind}
@@ -25,14 +25,16 @@ abbrev pub dim_for : Option Dim → Result Dim ErrKind
 dim_for None = Err ArgRange
 dim_for (Some d) = Ok d
 
+-- the argument stands for one number, which is 1 or 2
 abbrev pub dimension : Array → Result Dim ErrKind
 dimension a = bind (one_number a) (λ z. dim_for (dim_of z))
 
--- the operator of a total, and where it begins
+-- the operator of a total
 abbrev pub operator : Total → Op2
 operator Sum = Add
 operator Product = Mul
 
+-- where it begins
 abbrev pub start : Total → ℕ
 start Sum = 0
 start Product = 1
@@ -81,6 +83,10 @@ each_line value a =
 abbrev pub extreme_of : Extreme → Array → Result Array ErrKind
 extreme_of which a = each_line (best which) a
 
--- and its first place
+-- its first place in each line
 abbrev pub place_of : Extreme → Array → Result Array ErrKind
 place_of which a = each_line (best_place which) a
+
+-- both
+abbrev pub both_of : Extreme → Array → Result (List Array) ErrKind
+both_of which a = bind (extreme_of which a) (λ cells. bind (place_of which a) (λ places. Ok (cells ∷ places ∷ [])))

@@ -19,7 +19,7 @@ use Rattle.pl_builtin.specs.declared.rules.Rule.{Rule}
 use Rattle.pl_builtin.specs.declared.totals.Total.{Total}
 use Rattle.pl_builtin.specs.declared.extremes.Extreme.{Extreme}
 use Rattle.pl_builtin.specs.Arguments.{bind, is_of, is_text}
-use Rattle.pl_builtin.specs.Along.{total_of, total_by, extreme_of, place_of}
+use Rattle.pl_builtin.specs.Along.{total_of, total_by, extreme_of, both_of}
 use Rattle.pl_builtin.specs.Asking.{single, answer, length_of, size_of, size_along, are_equal, is_vector, is_single, class_name, text_row}
 use Rattle.pl_builtin.specs.Making.{made, square_of, block_of}
 use Rattle.pl_builtin.specs.Pairs.{pairs_of, bits_of}
@@ -112,27 +112,16 @@ first_output mode f (a ∷ b ∷ []) = with_two mode f a b
 first_output mode f (a ∷ b ∷ c ∷ []) = with_three mode f a b c
 first_output mode f args = Err ArgCount
 
--- the second output, of the functions that have one
-abbrev pub second_output : Builtin → List Array → Result Array ErrKind
-second_output Min (a ∷ []) = place_of Extreme.Least a
-second_output Max (a ∷ []) = place_of Extreme.Greatest a
-second_output Size (a ∷ []) = Ok (single a.cols)
-second_output f args = Err ArgCount
-
--- the first output of those functions, where both are asked for
-abbrev pub first_of_two : Builtin → List Array → Result Array ErrKind
-first_of_two Min (a ∷ []) = extreme_of Extreme.Least a
-first_of_two Max (a ∷ []) = extreme_of Extreme.Greatest a
-first_of_two Size (a ∷ []) = Ok (single a.rows)
-first_of_two f args = Err ArgCount
-
 -- one answer
 abbrev pub one_answer : Mode → Builtin → List Array → Result (List Array) ErrKind
 one_answer mode f args = bind (first_output mode f args) (λ o. Ok (o ∷ []))
 
--- two answers
+-- two answers, of the functions that have them
 abbrev pub two_answers : Builtin → List Array → Result (List Array) ErrKind
-two_answers f args = bind (first_of_two f args) (λ o. bind (second_output f args) (λ p. Ok (o ∷ p ∷ [])))
+two_answers Min (a ∷ []) = both_of Extreme.Least a
+two_answers Max (a ∷ []) = both_of Extreme.Greatest a
+two_answers Size (a ∷ []) = Ok (single a.rows ∷ single a.cols ∷ [])
+two_answers f args = Err ArgCount
 
 -- the answers to a call that asks for so many outputs; none asked for is one that may be given
 abbrev pub call_of : Mode → Builtin → List Array → ℕ → Result (List Array) ErrKind

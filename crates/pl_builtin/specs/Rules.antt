@@ -12,10 +12,11 @@ use Rattle.pl_builtin.specs.declared.rules.Bits.TheVariants.{And, Or, Xor, Shift
 use Rattle.pl_builtin.specs.declared.rules.Rule.{Rule}
 use Rattle.pl_builtin.specs.declared.rules.Rule.TheVariants.{Divide, Combine}
 
--- the quotient's size, rounded down and rounded up
+-- the quotient's size, rounded down
 abbrev pub down : ℤ → ℤ → ℕ
 down x y = unsigned_abs x / unsigned_abs y
 
+-- and rounded up
 abbrev pub up : ℤ → ℤ → ℕ
 up x y = div_ceil (unsigned_abs x) (unsigned_abs y)
 

@@ -2,11 +2,7 @@
 //!
 //! Promised: the answer of the definition. Nothing but the answer is made.
 
-ghost use Rattle.std.specs.Prelude.{◌≡◌, ◌==◌, ◌≤◌, length, map, if◌then◌else◌, pos, IfOk};
-ghost use Rattle.std.specs.Ordering.{int_eq};
-ghost use Rattle.std.specs.Cmp.Lexicographic.{pointwise};
-ghost use Rattle.pl_array.specs.Arrays.{most};
-ghost use Rattle.pl_builtin.specs.Arguments.{bind};
+ghost use Rattle.std.specs.Prelude.{◌≡◌, ◌==◌, ◌≤◌, [], ◌∷◌, length, map, if◌then◌else◌, pos, IfOk};
 ghost use Rattle.pl_builtin.specs.Asking.{single, answer, length_of, size_of, extent_along, size_along, are_equal, is_vector, is_single, class_name, text_row};
 
 use crate::arguments::one_number;
@@ -59,6 +55,17 @@ pub(crate) fn size(alloc: Global, a: &Arr) -> Result<Arr, NoMemory>
     let s = a.shape();
     let cells = Vec::from_slice(alloc, &[i64::from(s.rows), i64::from(s.cols)])?;
     Ok(Arr::new(Class::Int, Shape { rows: 1, cols: 2 }, cells))
+}
+
+/// Both extents, each by itself.
+pub(crate) fn both_extents(alloc: Global, a: &Arr) -> Result<Vec<Arr>, NoMemory>
+    ensures { IfOk result (λ v. v.items ≡ single a.now.rows ∷ single a.now.cols ∷ []) }
+{
+    let s = a.shape();
+    let mut answers = Vec::with_capacity(alloc, 2)?;
+    answers.push(count(s.rows))?;
+    answers.push(count(s.cols))?;
+    Ok(answers)
 }
 
 /// The extent of the dimension that an argument names.

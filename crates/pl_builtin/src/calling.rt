@@ -8,11 +8,11 @@
 ghost use Rattle.std.specs.Prelude.{◌≡◌, ◌&&◌, IfOk};
 ghost use Rattle.pl_builtin.specs.Arguments.{is_of};
 ghost use Rattle.pl_builtin.specs.Asking.{are_equal};
-ghost use Rattle.pl_builtin.specs.Calling.{end_of, rounding_of, with_none, with_one, with_two, with_three, first_output, first_of_two, second_output, one_answer, two_answers, call_of};
+ghost use Rattle.pl_builtin.specs.Calling.{end_of, rounding_of, with_none, with_one, with_two, with_three, first_output, one_answer, two_answers, call_of};
 
 use crate::arguments::{is_of, is_text};
-use crate::asking::{self, answer, are_equal, count, is_single, is_vector};
-use crate::extremes::{Extreme, extreme_cells, extreme_places};
+use crate::asking::{self, answer, are_equal, is_single, is_vector};
+use crate::extremes::{Extreme, both_extremes, extreme_cells};
 use crate::making::{Fill, block, make, square};
 use crate::name::Builtin;
 use crate::pairs::{bits, pair};
@@ -64,12 +64,15 @@ fn give_two(alloc: Global, f: Builtin, args: &[Arr]) -> Result<Vec<Arr>, Or<ErrK
     ensures ok { IfOk result (λ v. two_answers f args.now ≡ Ok v.items) }
     ensures err { (kind : ErrKind) → result ≡ Err (Or.Is kind) → two_answers f args.now ≡ Err kind }
 {
-    let first = answer_first_of_two(alloc, f, args)?;
-    let second = answer_second(alloc, f, args)?;
-    let mut answers = Vec::new(alloc);
-    answers.push(first)?;
-    answers.push(second)?;
-    Ok(answers)
+    let [a] = args else {
+        return Err(Or::Is(ErrKind::ArgCount));
+    };
+    match f {
+        Builtin::Min => both_extremes(alloc, Extreme::Least, a),
+        Builtin::Max => both_extremes(alloc, Extreme::Greatest, a),
+        Builtin::Size => Ok(asking::both_extents(alloc, a)?),
+        _ => Err(Or::Is(ErrKind::ArgCount)),
+    }
 }
 
 fn answer_first(alloc: Global, mode: Mode, f: Builtin, args: &[Arr]) -> Result<Arr, Or<ErrKind>>
@@ -179,36 +182,6 @@ fn answer_three(
             Ok(rounding) => pair(alloc, mode, Rule::Divide(rounding), a, b),
             Err(kind) => Err(Or::Is(kind)),
         },
-        _ => Err(Or::Is(ErrKind::ArgCount)),
-    }
-}
-
-fn answer_first_of_two(alloc: Global, f: Builtin, args: &[Arr]) -> Result<Arr, Or<ErrKind>>
-    ensures ok { IfOk result (λ o. first_of_two f args.now ≡ Ok o) }
-    ensures err { (kind : ErrKind) → result ≡ Err (Or.Is kind) → first_of_two f args.now ≡ Err kind }
-{
-    let [a] = args else {
-        return Err(Or::Is(ErrKind::ArgCount));
-    };
-    match f {
-        Builtin::Min => extreme_cells(alloc, Extreme::Least, a),
-        Builtin::Max => extreme_cells(alloc, Extreme::Greatest, a),
-        Builtin::Size => Ok(count(a.shape().rows)),
-        _ => Err(Or::Is(ErrKind::ArgCount)),
-    }
-}
-
-fn answer_second(alloc: Global, f: Builtin, args: &[Arr]) -> Result<Arr, Or<ErrKind>>
-    ensures ok { IfOk result (λ o. second_output f args.now ≡ Ok o) }
-    ensures err { (kind : ErrKind) → result ≡ Err (Or.Is kind) → second_output f args.now ≡ Err kind }
-{
-    let [a] = args else {
-        return Err(Or::Is(ErrKind::ArgCount));
-    };
-    match f {
-        Builtin::Min => extreme_places(alloc, Extreme::Least, a),
-        Builtin::Max => extreme_places(alloc, Extreme::Greatest, a),
-        Builtin::Size => Ok(count(a.shape().cols)),
         _ => Err(Or::Is(ErrKind::ArgCount)),
     }
 }

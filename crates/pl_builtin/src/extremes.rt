@@ -3,10 +3,10 @@
 //! Promised: the cell than which no other of its line is better, and the first place that has it. The array is only
 //! read, in one pass for the cells and in one for the places.
 
-ghost use Rattle.std.specs.Prelude.{◌≡◌, ◌+◌, ◌<◌, ◌≤◌, ℤ, pos, List, map, length, slice_index_or, IfOk};
+ghost use Rattle.std.specs.Prelude.{◌≡◌, ◌<◌, ◌≤◌, pos, map, length, slice_index_or, IfOk};
 ghost use Rattle.pl_array.specs.Cellwise.{shape_of};
 ghost use Rattle.pl_lines.specs.Lines.{default_dim, extent, lines, one_a_line};
-ghost use Rattle.pl_builtin.specs.Along.{is_better, first_best, best, best_place, each_line, extreme_of, place_of};
+ghost use Rattle.pl_builtin.specs.Along.{is_better, first_best, best, best_place, each_line, extreme_of, place_of, both_of};
 
 use pl_array::{Arr, Class};
 use pl_base::{ErrKind, NoMemory, Or};
@@ -81,11 +81,24 @@ pub(crate) fn extreme_cells(alloc: Global, which: Extreme, a: &Arr) -> Result<Ar
 }
 
 /// Its first place in each line, from 1.
-pub(crate) fn extreme_places(alloc: Global, which: Extreme, a: &Arr) -> Result<Arr, Or<ErrKind>>
+fn extreme_places(alloc: Global, which: Extreme, a: &Arr) -> Result<Arr, Or<ErrKind>>
     ensures ok { IfOk result (λ o. place_of which a.now ≡ Ok o) }
     ensures err { (kind : ErrKind) → result ≡ Err (Or.Is kind) → place_of which a.now ≡ Err kind }
 {
     each_line(alloc, &BestPlace { which }, a)
+}
+
+/// Both, the cells first.
+pub(crate) fn both_extremes(alloc: Global, which: Extreme, a: &Arr) -> Result<Vec<Arr>, Or<ErrKind>>
+    ensures ok { IfOk result (λ v. both_of which a.now ≡ Ok v.items) }
+    ensures err { (kind : ErrKind) → result ≡ Err (Or.Is kind) → both_of which a.now ≡ Err kind }
+{
+    let cells = extreme_cells(alloc, which, a)?;
+    let places = extreme_places(alloc, which, a)?;
+    let mut answers = Vec::with_capacity(alloc, 2)?;
+    answers.push(cells)?;
+    answers.push(places)?;
+    Ok(answers)
 }
 
 fn each_line<R: LineRule>(alloc: Global, rule: &R, a: &Arr) -> Result<Arr, Or<ErrKind>>

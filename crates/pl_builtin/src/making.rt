@@ -2,11 +2,10 @@
 //!
 //! Promised: the array of the definition, and the refusal where it would be too large, before any memory is taken.
 
-ghost use Rattle.std.specs.Prelude.{◌≡◌, ◌*◌, ◌/◌, ◌%◌, ◌<◌, ◌≤◌, ◌==◌, replicate, IfOk};
-ghost use Rattle.std.specs.List.{All};
-ghost use Rattle.pl_array.specs.Arrays.{most, IsCell};
+ghost use Rattle.std.specs.Prelude.{◌≡◌, ◌*◌, ◌/◌, ◌%◌, ◌<◌, ◌≤◌, ◌==◌, IfOk};
+ghost use Rattle.pl_array.specs.Arrays.{most};
 ghost use Rattle.pl_array.specs.Cellwise.{truth};
-ghost use Rattle.pl_array.specs.Joining.{by_places, is_within};
+ghost use Rattle.pl_array.specs.Joining.{by_places};
 ghost use Rattle.pl_builtin.specs.Making.{uniform, identity, filled, made, shape_for, square_of, block_of};
 
 use crate::arguments::{extent, one_number};

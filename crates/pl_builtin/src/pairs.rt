@@ -7,7 +7,7 @@ ghost use Rattle.std.specs.List.{list_any};
 ghost use Rattle.pl_array.specs.Arrays.{Array, most};
 ghost use Rattle.pl_array.specs.Cellwise.{Fits, fitted, shape_of, sized, operand, each_cell, some_cell};
 ghost use Rattle.pl_builtin.specs.Rules.{number, overflows};
-ghost use Rattle.pl_builtin.specs.Pairs.{paired, pairs_of, is_negative, is_no_right, bits_of};
+ghost use Rattle.pl_builtin.specs.Pairs.{pairs_of, is_negative, is_no_right, bits_of};
 
 use crate::rules::{Bits, Rule};
 use pl_array::{Arr, Class, Shape, fit};
