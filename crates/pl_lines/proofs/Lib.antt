@@ -1,3 +1,3 @@
 mod Standing
-mod Onward
+pub mod Onward
 mod Mapped

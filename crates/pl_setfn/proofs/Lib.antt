@@ -1,0 +1,5 @@
+mod Ordered
+mod Laid
+mod InOrder
+mod AllTrue
+mod Running
