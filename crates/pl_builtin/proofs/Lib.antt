@@ -2,3 +2,4 @@ mod Sizes
 mod Cells
 mod FirstBest
 mod Lines
+mod Places

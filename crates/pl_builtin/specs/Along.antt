@@ -1,5 +1,5 @@
 -- What the functions along lines answer: sums and products, and the least and the greatest of each line.
-use Rattle.std.specs.Prelude.{ℕ, ◌+◌, ℤ, pos, int_lt, Bool, not, ◌==◌, List, [], ◌∷◌, map, slice_index_or, Option, Some, None, Result, Ok, Err, if◌then◌else◌}
+use Rattle.std.specs.Prelude.{ℕ, ◌+◌, ◌-◌, ℤ, pos, unsigned_abs, int_lt, Bool, not, ◌==◌, List, [], ◌∷◌, map, slice_index_or, Option, Some, None, Result, Ok, Err, if◌then◌else◌}
 use Rattle.std.specs.List.{list_any, position_or_len}
 use Rattle.pl_base.specs.declared.mode.Mode.{Mode}
 use Rattle.pl_base.specs.declared.errors.ErrKind.{ErrKind}
@@ -71,6 +71,10 @@ best which cells = slice_index_or cells (first_best which cells) (pos 0)
 -- its place, from 1
 abbrev pub best_place : Extreme → List ℤ → ℤ
 best_place which cells = pos (first_best which cells + 1)
+
+-- the cell at a place that counts from 1
+abbrev pub cell_of : List ℤ → ℤ → ℤ
+cell_of cells place = slice_index_or cells (unsigned_abs place - 1) (pos 0)
 
 -- a value for each line along the default dimension; 0x0 gives 0x0, and other lines without cells are refused
 abbrev pub each_line : (List ℤ → ℤ) → Array → Result Array ErrKind

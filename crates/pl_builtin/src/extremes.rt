@@ -1,16 +1,17 @@
 //! The least and the greatest cell of each line, and their first places.
 //!
 //! Promised: the cell than which no other of its line is better, and the first place that has it. The array is only
-//! read, in one pass for the cells and in one for the places.
+//! read, in one pass.
 
 ghost use Rattle.std.specs.Prelude.{◌≡◌, ◌<◌, ◌≤◌, pos, map, length, slice_index_or, IfOk};
+ghost use Rattle.std.specs.List.{range_with_len};
 ghost use Rattle.pl_array.specs.Cellwise.{shape_of};
-ghost use Rattle.pl_lines.specs.Lines.{default_dim, extent, lines, one_a_line};
-ghost use Rattle.pl_builtin.specs.Along.{is_better, first_best, best, best_place, each_line, extreme_of, place_of, both_of};
+ghost use Rattle.pl_lines.specs.Lines.{default_dim, extent, line_count, line, lines, one_a_line};
+ghost use Rattle.pl_builtin.specs.Along.{is_better, first_best, best, best_place, cell_of, each_line, extreme_of, place_of, both_of};
 
 use pl_array::{Arr, Class};
 use pl_base::{ErrKind, NoMemory, Or};
-use pl_lines::{LineRule, default_dim, map_lines};
+use pl_lines::{LineRule, default_dim, line_cells, map_lines};
 use std::alloc::Global;
 
 /// Which cell of a line is wanted.
@@ -93,12 +94,43 @@ pub(crate) fn both_extremes(alloc: Global, which: Extreme, a: &Arr) -> Result<Ve
     ensures ok { IfOk result (λ v. both_of which a.now ≡ Ok v.items) }
     ensures err { (kind : ErrKind) → result ≡ Err (Or.Is kind) → both_of which a.now ≡ Err kind }
 {
-    let cells = extreme_cells(alloc, which, a)?;
     let places = extreme_places(alloc, which, a)?;
+    let cells = cells_at(alloc, which, a, &places)?;
     let mut answers = Vec::with_capacity(alloc, 2)?;
     answers.push(cells)?;
     answers.push(places)?;
     Ok(answers)
+}
+
+/// The cells that are wanted, where their places were found.
+fn cells_at(alloc: Global, which: Extreme, a: &Arr, places: &Arr) -> Result<Arr, NoMemory>
+    requires { place_of which a.now ≡ Ok places.now }
+    ensures { IfOk result (λ o. extreme_of which a.now ≡ Ok o) }
+{
+    let cells = read_each(alloc, a, places.cells())?;
+    Ok(Arr::new(Class::Int, places.shape(), cells))
+}
+
+/// The cell of each line at its place.
+fn read_each(alloc: Global, a: &Arr, places: &[i64]) -> Result<Vec<i64>, NoMemory>
+    ensures { IfOk result (λ v. v.items ≡ map (λ i. cell_of (line (default_dim (shape_of a.now)) a.now i) (slice_index_or places.now i (pos 0))) (range_with_len 0 (line_count (default_dim (shape_of a.now)) (shape_of a.now)))) }
+{
+    let s = a.shape();
+    let count = default_dim(s).line_count(s);
+    let mut cells = Vec::with_capacity(alloc, count as usize)?;
+    for i in 0..count {
+        cells.push(read_at(line_cells(a, i), places, i))?;
+    }
+    Ok(cells)
+}
+
+/// The cell of a line at its place, which counts from 1.
+fn read_at(line: &[i64], places: &[i64], i: u32) -> i64
+    ensures { result ≡ cell_of line.now (slice_index_or places.now i (pos 0)) }
+{
+    let place = places.get(i as usize).copied().unwrap_or(0);
+    let at = place.unsigned_abs().saturating_sub(1);
+    line.get(at as usize).copied().unwrap_or(0)
 }
 
 fn each_line<R: LineRule>(alloc: Global, rule: &R, a: &Arr) -> Result<Arr, Or<ErrKind>>
