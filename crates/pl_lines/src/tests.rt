@@ -55,7 +55,10 @@ fn totals(rt: HostRuntime) -> Result<(), Fail> {
         assert_eq!(rt; sums.cells(), [9, 12].as_slice());
         assert_eq!(rt; sums.shape(), Shape { rows: 2, cols: 1 });
     }
-    assert_eq!(rt; map_lines(alloc, &Length, &a)?.as_slice(), [2, 2, 2].as_slice());
+    assert_eq!(rt;
+        map_lines(alloc, &Length, &a)?.as_slice(),
+        [2, 2, 2].as_slice()
+    );
     Ok(())
 }
 

@@ -11,12 +11,15 @@ mod along;
 mod arguments;
 mod call;
 mod finding;
+mod laws;
 mod layout;
 mod order;
 mod set_fn;
 mod sums;
 
 pub use call::{call_set, call_set_in};
+pub use laws::in_order_is_a_stable_sort;
+pub use order::Way;
 pub use set_fn::SetFn;
 
 #[cfg(test)]
