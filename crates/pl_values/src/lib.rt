@@ -6,6 +6,9 @@
 //! Toolbox User's Guide, narrowed to arrays of two dimensions.
 #![tactic(auto)]
 
+mod env;
+mod slots;
 mod value;
 
+pub use env::Env;
 pub use value::{CoPart, PartScheme, Serial, Value};

@@ -1,0 +1,14 @@
+//! Which variables a script has, and what its names stand for.
+//!
+//! A script and each of its functions is a scope of its own. A variable of a scope has a slot: its place
+//! among the scope's variables in the order of their first occurrence. What every other name stands for
+//! is a function, by its number. The rules are those of the MATLAB documentation on workspaces, narrowed.
+#![tactic(auto)]
+
+mod fault;
+mod resolved;
+mod scope;
+
+pub use fault::NameFault;
+pub use resolved::Resolved;
+pub use scope::Scope;
