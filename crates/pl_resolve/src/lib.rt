@@ -5,10 +5,14 @@
 //! is a function, by its number. The rules are those of the MATLAB documentation on workspaces, narrowed.
 #![tactic(auto)]
 
+mod expressions;
 mod fault;
+mod occurrence;
 mod resolved;
 mod scope;
+mod statements;
 
+pub use occurrence::{Occurrence, Use};
 pub use fault::NameFault;
 pub use resolved::Resolved;
 pub use scope::Scope;
