@@ -7,12 +7,14 @@
 
 mod expressions;
 mod fault;
+mod functions;
 mod occurrence;
 mod resolved;
 mod scope;
 mod statements;
 
-pub use occurrence::{Occurrence, Use};
 pub use fault::NameFault;
+pub use functions::Functions;
+pub use occurrence::{Occurrence, Use};
 pub use resolved::Resolved;
 pub use scope::Scope;
