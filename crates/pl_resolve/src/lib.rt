@@ -10,6 +10,7 @@ mod fault;
 mod functions;
 mod occurrence;
 mod resolved;
+mod resolving;
 mod scope;
 mod statements;
 
@@ -17,4 +18,5 @@ pub use fault::NameFault;
 pub use functions::Functions;
 pub use occurrence::{Occurrence, Use};
 pub use resolved::Resolved;
+pub use resolving::resolve;
 pub use scope::Scope;
