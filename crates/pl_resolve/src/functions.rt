@@ -187,6 +187,34 @@ impl Functions {
         let place = in_table(name.bytes())?;
         Some((self.locals.len() + place) as u32)
     }
+
+    /// The name of a function's number.
+    pub fn name(&self, number: u32) -> Option<&[u8]>
+        ensures { option_copied result ≡ slice_get (self.now ++ function_names) number }
+    {
+        let place = number as usize;
+        let count = self.locals.len();
+        if place < count {
+            let name = &self.locals[place];
+            return Some(name.bytes());
+        }
+        table_name(place - count)
+    }
+}
+
+/// The name at a place.
+fn at(table: &[&'static [u8]], place: usize) -> Option<&'static [u8]>
+    ensures { option_copied result ≡ slice_get (map (λ k. k.now) table.now) place }
+{
+    table.get(place).copied()
+}
+
+/// The name at a place among the functions of the language.
+#[tactic(auto, unfolding(crate::specs::Functions::function_names))]
+fn table_name(place: usize) -> Option<&'static [u8]>
+    ensures { option_copied result ≡ slice_get function_names place }
+{
+    at(&NAMES, place)
 }
 
 /// The first place of a name among local functions.

@@ -17,6 +17,11 @@ mod statements;
 pub use fault::NameFault;
 pub use functions::Functions;
 pub use occurrence::{Occurrence, Use};
+pub use pl_values::{CoPart, Env, PartScheme, Serial, Value};
 pub use resolved::Resolved;
 pub use resolving::resolve;
 pub use scope::Scope;
+pub use statements::occurrences;
+
+#[cfg(test)]
+mod tests;

@@ -1,13 +1,24 @@
 //! The names of statements.
 
-ghost use Rattle.std.specs.Prelude.{◌≡◌, ◌++◌, map, OnOk};
+ghost use Rattle.std.specs.Prelude.{◌≡◌, ◌++◌, map, IfOk, OnOk};
 ghost use Rattle.pl_resolve.specs.Occurrences.{joined, of_target, of_targets, of_arm, of_arms, of_stmt, of_block};
 
 use crate::expressions::{add, add_expr, add_exprs};
 use crate::occurrence::{Occurrence, Use};
-use pl_base::NoMemory;
+use pl_base::{NoMemory, Seq};
 use pl_syntax::{Arm, Stmt, StmtKind, Target};
 use sqlite_items::Items;
+use std::alloc::Global;
+
+/// The names of statements in the order of the text, and what is done with each. A name that turns out to
+/// be a function's is among them, so ask its scope whether it is a variable.
+pub fn occurrences(alloc: Global, body: &Items<Stmt>) -> Result<Seq<Occurrence>, NoMemory>
+    ensures { IfOk result (λ s. s ≡ of_block body.now) }
+{
+    let mut names = Vec::new(alloc);
+    add_block(&mut names, body)?;
+    Ok(Seq::of(names))
+}
 
 /// Adds the names of a target.
 fn add_target(out: &mut Vec<Occurrence>, target: &Target) -> Result<(), NoMemory>
