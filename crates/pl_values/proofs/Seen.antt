@@ -1,10 +1,10 @@
 -- What a layer shows, slot by slot, and after a write.
-use Rattle.std.proofs.Common.{◌≡◌, ℕ, zero, suc, ◌+◌, ◌<◌, Bool, true, false, true≢false, nat_eq, length, replicate, slice_get, slice_set, map, take, get_or, List, [], ◌∷◌, ◌++◌, Option, Some, None, is_some, refl, sym, ap, ◌∙◌, if◌then◌else◌, arith}
+use Rattle.std.proofs.Common.{◌≡◌, ℕ, zero, suc, ◌+◌, ◌<◌, Bool, true, false, true≢false, nat_eq, length, replicate, slice_set, take, get_or, List, [], ◌∷◌, ◌++◌, Option, Some, None, is_some, refl, sym, ap, ◌∙◌, if◌then◌else◌, arith}
 use Rattle.std.proofs.lemmas.List.{take_more}
 use Rattle.std.specs.Map.{lookup}
 use Rattle.pl_values.specs.declared.value.Value.{Value}
 use Rattle.pl_values.specs.declared.layers.Layer.{Layer}
-use Rattle.pl_values.specs.Workspaces.{joined, value_at}
+use Rattle.pl_values.specs.Workspaces.{value_at}
 use Rattle.pl_values.specs.Inner.{seen, first_of, find_in, laid, shows_at}
 
 get_seen : (find : ℕ → Option Value) (marks : List Bool) (i : ℕ) → value_at (seen find marks) i ≡ (if shows_at marks i then find i else None)

@@ -1,4 +1,4 @@
-use Rattle.std.proofs.Common.{◌≡◌, map, sym, ap, ◌∙◌}
+use Rattle.std.proofs.Common.{map, sym, ap, ◌∙◌}
 use Rattle.pl_values.specs.Workspaces.{value_at}
 use Rattle.pl_values.specs.Inner.{stacked}
 use Rattle.pl_values.proofs.Seen.{read_hidden, read_own, read_below}

@@ -1,6 +1,6 @@
-use Rattle.std.proofs.Common.{◌≡◌, ap, ◌∙◌, nat_eq}
+use Rattle.std.proofs.Common.{ap, ◌∙◌, nat_eq}
 use Rattle.std.specs.Map.{lookup}
-use Rattle.pl_values.proofs.Seen.{set_laid, clear_laid}
+use Rattle.pl_values.proofs.Seen.{clear_laid}
 use Rattle.pl_values.proofs.layers.Layer.empty.Goals as goal
 
 pub returns-clause-rest : goal.returns-clause-rest

@@ -1,4 +1,3 @@
-use Rattle.std.proofs.Common.{sym, ap, ◌∙◌}
 use Rattle.pl_values.specs.Inner.{below_of}
 use Rattle.pl_values.proofs.Seen.{length_laid}
 use Rattle.pl_values.proofs.layers.Layers.len.Goals as goal

@@ -1,5 +1,4 @@
-use Rattle.std.proofs.Common.{◌≡◌, ap, sym, map, ◌∙◌, ◌++◌, ◌∷◌, [], length, replicate, false, Bor, List}
-use Rattle.pl_values.specs.declared.layers.Layer.{Layer}
+use Rattle.std.proofs.Common.{◌≡◌, ap, map, ◌∙◌, ◌∷◌, replicate, false}
 use Rattle.pl_values.specs.Inner.{laid, stacked, below_of}
 use Rattle.pl_values.proofs.Seen.{fresh_laid, length_laid}
 use Rattle.pl_values.proofs.layers.Layers.over.Goals as goal
