@@ -1,0 +1,13 @@
+//! What operators, brackets, ranges, indexing and displays make of values.
+//!
+//! Everything here acts on values that are there already; nothing knows a workspace, a script or a world.
+//! Promised: each call gives the value that the definitions of `specs/` say, or the refusal that they say, in
+//! their order; operands are tested for arrays from the left before anything else; and a value that a call can't
+//! change after all is as it was. The operators are MATLAB's, narrowed to whole numbers, truth values and
+//! characters; futures, Composites and codistributed arrays are those of the MathWorks Parallel Computing
+//! Toolbox User's Guide.
+#![tactic(auto)]
+
+mod argument;
+
+pub use argument::Argument;
