@@ -1,5 +1,6 @@
 -- Indexing of values: what an index selects, assigns and deletes, what `end` stands for, and what braces read.
-use Rattle.std.specs.Prelude.{ℕ, ◌+◌, ◌-◌, ◌*◌, ◌==◌, ℤ, pos, unsigned_abs, int_lt, List, [], ◌∷◌, ◌++◌, length, slice_index_or, slice_get, slice_set, Option, Some, None, Result, Ok, Err, nat_lt, if◌then◌else◌}
+use Rattle.std.specs.List.{list_any}
+use Rattle.std.specs.Prelude.{is_ok, Bool, not, ℕ, ◌+◌, ◌-◌, ◌*◌, ◌==◌, ℤ, pos, unsigned_abs, int_lt, List, [], ◌∷◌, ◌++◌, length, slice_index_or, slice_get, slice_set, Option, Some, None, Result, Ok, Err, nat_lt, if◌then◌else◌}
 use Rattle.pl_base.specs.declared.errors.ErrKind.{ErrKind}
 use Rattle.pl_base.specs.declared.errors.ErrKind.TheVariants.{BadKind, BadIndex, IndexRange, CompositeUnset}
 use Rattle.pl_array.specs.Arrays.{Array, single_of}
@@ -25,21 +26,20 @@ abbrev pub position_of : Argument → Result Pos ErrKind
 position_of Colon = Ok All
 position_of (Given v) = and_then (array_in v) (λ a. Ok (At a))
 
--- the positions of arguments, tested from the left
-abbrev pub positions_of : List Argument → Result (List Pos) ErrKind
-positions_of [] = Ok []
-positions_of (argument ∷ arguments) = and_then (position_of argument) (λ p. and_then (positions_of arguments) (λ ps. Ok (p ∷ ps)))
+-- an argument that is no position
+abbrev pub is_no_position : Argument → Bool
+is_no_position argument = not (is_ok (position_of argument))
 
--- one or two positions
-abbrev pub index_by : List Pos → Result Index ErrKind
-index_by [] = Err BadIndex
-index_by (p ∷ []) = Ok (index.One p)
-index_by (p ∷ q ∷ []) = Ok (index.Two p q)
-index_by (p ∷ q ∷ r ∷ more) = Err BadIndex
+-- why so many arguments make no index
+abbrev pub index_refusal : List Argument → ErrKind
+index_refusal arguments = if list_any is_no_position arguments then BadKind else BadIndex
 
--- the index that arguments make
+-- the index that arguments make, tested from the left: of any but one or two positions there is none
 abbrev pub index_of : List Argument → Result Index ErrKind
-index_of arguments = and_then (positions_of arguments) index_by
+index_of [] = Err BadIndex
+index_of (p ∷ []) = and_then (position_of p) (λ a. Ok (index.One a))
+index_of (p ∷ q ∷ []) = and_then (position_of p) (λ a. and_then (position_of q) (λ b. Ok (index.Two a b)))
+index_of (p ∷ q ∷ r ∷ more) = Err (index_refusal (p ∷ q ∷ r ∷ more))
 
 -- a 1x1 subscript, from 1
 abbrev pub subscript : Option ℤ → Result ℕ ErrKind

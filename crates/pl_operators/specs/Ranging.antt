@@ -8,11 +8,15 @@ use Rattle.pl_array.specs.Arrays.{Array, most, single_of}
 use Rattle.pl_values.specs.declared.value.Value.{Value}
 use Rattle.pl_operators.specs.Operands.{and_then, valued, array_in}
 
+-- how many numbers there are from low up to high in steps of this size
+abbrev pub steps_up : ℤ → ℕ → ℤ → ℕ
+steps_up low size high = if int_lt high low then 0 else unsigned_abs (high -ℤ low) / size + 1
+
 -- how many numbers there are from first on in steps that don't pass last; none by a step of 0
 abbrev pub range_count : ℤ → ℤ → ℤ → ℕ
 range_count first (pos zero) last = 0
-range_count first (pos (suc s)) last = if int_lt last first then 0 else unsigned_abs (last -ℤ first) / suc s + 1
-range_count first (negsuc s) last = if int_lt first last then 0 else unsigned_abs (first -ℤ last) / suc s + 1
+range_count first (pos (suc s)) last = steps_up first (suc s) last
+range_count first (negsuc s) last = steps_up last (suc s) first
 
 -- number k of a range is first + k * step
 abbrev pub range_cells : ℤ → ℤ → ℕ → List ℤ

@@ -9,5 +9,26 @@
 #![tactic(auto)]
 
 mod argument;
+mod assigning;
+mod for_columns;
+mod extents;
+mod indexing;
+mod literals;
+mod operands;
+mod operating;
+mod picking;
+mod ranging;
+mod showing;
+mod truth;
 
 pub use argument::Argument;
+pub use assigning::assign_value;
+pub use for_columns::{column, columns};
+pub use extents::{brace, extent};
+pub use indexing::index;
+pub use literals::{chars, number};
+pub use operating::{binary, unary};
+pub use picking::{delete_value, select_value};
+pub use ranging::range;
+pub use showing::shown;
+pub use truth::{case_fits, condition, logical, switch};

@@ -1,0 +1,3 @@
+mod Converted
+mod ColumnCells
+mod Ranges
