@@ -71,8 +71,7 @@ char_row bytes = record { class = Char; rows = 1; cols = length bytes; cells = m
 
 -- a text: a row of its characters, of more than an array holds the first ones, and 0x0 where there are none
 abbrev pub chars_of : List ℕ → Value
-chars_of [] = value.Array (nothing Char)
-chars_of (b ∷ bytes) = value.Array (char_row (take most (b ∷ bytes)))
+chars_of bytes = if length bytes == 0 then value.Array (nothing Char) else value.Array (char_row (take most bytes))
 
 -- a number
 abbrev pub number_of : ℤ → Value

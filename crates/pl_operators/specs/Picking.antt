@@ -107,9 +107,13 @@ abbrev pub assign_value : Option Value → List Argument → Value → Result Va
 assign_value None arguments v = assign_to_none arguments (out-Value v)
 assign_value (Some old) arguments v = assign_at (out-Value old) arguments v
 
+abbrev pub delete_at : Value-F Value → List Argument → Result Value ErrKind
+delete_at (Value-F.Array a) arguments = valued (and_then (index_of arguments) (delete_of a))
+delete_at layer arguments = Err BadKind
+
 -- what a deletion leaves of a value
 abbrev pub delete_value : Value → List Argument → Result Value ErrKind
-delete_value v arguments = valued (and_then (array_in v) (λ a. and_then (index_of arguments) (delete_of a)))
+delete_value v arguments = delete_at (out-Value v) arguments
 
 -- the extent of position p of n: all cells for one position, else rows, columns, and 1 behind them
 abbrev pub extent_at : Size → ℕ → ℕ → ℕ

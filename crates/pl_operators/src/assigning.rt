@@ -61,11 +61,7 @@ fn first_array(alloc: Global, arguments: &[Argument], v: &Arr) -> Result<Value, 
     Ok(Value::Array(a))
 }
 
-fn first_future(
-    alloc: Global,
-    arguments: &[Argument],
-    more: &[u32],
-) -> Result<Value, Or<ErrKind>>
+fn first_future(alloc: Global, arguments: &[Argument], more: &[u32]) -> Result<Value, Or<ErrKind>>
     ensures ok { IfOk result (λ o. assign_future [] arguments.now more.now ≡ Ok o) }
     ensures err { (kind : ErrKind) → result ≡ Err (Or.Is kind) → assign_future [] arguments.now more.now ≡ Err kind }
 {

@@ -10,8 +10,9 @@
 
 mod argument;
 mod assigning;
-mod for_columns;
+mod bracketing;
 mod extents;
+mod for_columns;
 mod indexing;
 mod literals;
 mod operands;
@@ -23,8 +24,9 @@ mod truth;
 
 pub use argument::Argument;
 pub use assigning::assign_value;
-pub use for_columns::{column, columns};
+pub use bracketing::rows;
 pub use extents::{brace, extent};
+pub use for_columns::{column, columns};
 pub use indexing::index;
 pub use literals::{chars, number};
 pub use operating::{binary, unary};

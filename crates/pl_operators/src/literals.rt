@@ -23,13 +23,11 @@ pub fn number(z: i64) -> Value
 pub fn chars(alloc: Global, bytes: &[u8]) -> Result<Value, NoMemory>
     ensures { IfOk result (λ v. v ≡ chars_of bytes.now) }
 {
-    match bytes {
-        [] => Ok(Value::Array(nothing(alloc, Class::Char))),
-        _ => {
-            let row = chars_in_row(alloc, first_bytes(bytes))?;
-            Ok(Value::Array(row))
-        }
+    if bytes.len() == 0 {
+        return Ok(Value::Array(nothing(alloc, Class::Char)));
     }
+    let row = chars_in_row(alloc, first_bytes(bytes))?;
+    Ok(Value::Array(row))
 }
 
 /// An array without rows and columns.
@@ -44,11 +42,18 @@ fn first_bytes(bytes: &[u8]) -> &[u8]
     ensures bytes { result.now ≡ take most bytes.now }
     ensures few { length result.now ≤ most }
 {
-    if bytes.len() > 1_000_000 {
-        &bytes[..1_000_000]
-    } else {
+    let limit = most_cells();
+    if bytes.len() <= limit {
         bytes
+    } else {
+        &bytes[..limit]
     }
+}
+
+fn most_cells() -> usize
+    ensures { result ≡ most }
+{
+    1_000_000
 }
 
 fn chars_in_row(alloc: Global, bytes: &[u8]) -> Result<Arr, NoMemory>
@@ -65,9 +70,6 @@ fn char_cells(alloc: Global, bytes: &[u8]) -> Result<Vec<i64>, NoMemory>
     ensures count { IfOk result (λ v. length v.items ≡ length bytes.now) }
     ensures of_class { IfOk result (λ v. All (IsCell Class.Char) v.items) }
 {
-    let mut cells = Vec::with_capacity(alloc, bytes.len())?;
-    for byte in bytes {
-        cells.push(i64::from(*byte))?;
-    }
+    let cells: Vec<i64> = bytes.iter().map(|byte| i64::from(*byte)).collect(alloc)?;
     Ok(cells)
 }

@@ -5,9 +5,8 @@
 
 ghost use Rattle.std.specs.Prelude.{◌≡◌, [], ◌∷◌, IfOk, OnOk, OnErr};
 ghost use Rattle.pl_values.specs.declared.value.Value.TheOpen.{Value-F};
-ghost use Rattle.pl_operators.specs.Picking.{index_of, pick_call, select_at, select_value as selects, delete_value as deletes};
-ghost use Rattle.pl_operators.specs.Operands.{and_then};
-ghost use Rattle.pl_index.specs.Choosing.{delete_of};
+ghost use Rattle.pl_values.specs.declared.value.Value.TheVariants as value_of;
+ghost use Rattle.pl_operators.specs.Picking.{pick_call, select_at, select_value as selects, delete_at, delete_value as deletes};
 
 use crate::argument::Argument;
 use crate::indexing::{index, single};
@@ -57,7 +56,10 @@ fn pick(alloc: Global, calls: &[u32], k: u64) -> Result<Value, Or<ErrKind>>
     if k > calls.len() as u64 {
         return Err(Or::Is(ErrKind::IndexRange));
     }
-    let call = calls.get(k.saturating_sub(1) as usize).copied().unwrap_or(0);
+    let call = calls
+        .get(k.saturating_sub(1) as usize)
+        .copied()
+        .unwrap_or(0);
     let one = one_call(alloc, call)?;
     Ok(Value::Futures(one))
 }
@@ -84,8 +86,8 @@ pub fn delete_value(alloc: Global, v: &mut Value, arguments: &[Argument]) -> Res
 }
 
 fn delete_array(alloc: Global, a: &mut Arr, arguments: &[Argument]) -> Result<(), Or<ErrKind>>
-    ensures ok { OnOk result (and_then (index_of arguments.now) (delete_of a.old) ≡ Ok a.new) }
-    ensures err { (kind : ErrKind) → result ≡ Err (Or.Is kind) → and_then (index_of arguments.now) (delete_of a.old) ≡ Err kind }
+    ensures ok { OnOk result (delete_at (Value-F.Array a.old) arguments.now ≡ Ok (value_of.Array a.new)) }
+    ensures err { (kind : ErrKind) → result ≡ Err (Or.Is kind) → delete_at (Value-F.Array a.old) arguments.now ≡ Err kind }
     ensures kept { OnErr result (a.new ≡ a.old) }
 {
     let at = index(alloc, arguments)?;
