@@ -3,7 +3,7 @@
 //! Promised: all elements are tested from the left first, then each row is joined across, and then the rows
 //! down, each from the left. One row of futures alone is the row of all of them.
 
-ghost use Rattle.std.specs.Prelude.{◌≡◌, map, [], ◌∷◌, IfOk};
+ghost use Rattle.std.specs.Prelude.{◌≡◌, map, [], ◌∷◌, not, IfOk};
 ghost use Rattle.std.specs.List.{flat_map, list_any};
 ghost use Rattle.pl_array.specs.Joining.{concat_h_of, concat_v_of};
 ghost use Rattle.pl_operators.specs.Operands.{arrays_in};
@@ -84,8 +84,25 @@ fn matrix(alloc: Global, rows: &[Items<Value>]) -> Result<Value, Or<ErrKind>>
     ensures err { (kind : ErrKind) → result ≡ Err (Or.Is kind) → matrix_of rows.now ≡ Err kind }
 {
     let grid = grid_of(alloc, rows)?;
-    let o = stacked(alloc, grid.as_slice())?;
-    Ok(Value::Array(o))
+    stacked_value(alloc, rows, grid.as_slice())
+}
+
+/// The array of a grid, which is the arrays of these rows.
+#[tactic(auto, using(crate::proofs::Fronts::matrix_made, crate::proofs::Fronts::matrix_refused))]
+fn stacked_value(
+    alloc: Global,
+    rows: &[Items<Value>],
+    grid: &[Vec<&Arr>],
+) -> Result<Value, Or<ErrKind>>
+    requires { grid_in rows.now ≡ Ok (map (λ row. map (λ a. a.now) row.items) grid.now) }
+    ensures ok { IfOk result (λ o. matrix_of rows.now ≡ Ok o) }
+    ensures err { (kind : ErrKind) → result ≡ Err (Or.Is kind) → matrix_of rows.now ≡ Err kind }
+{
+    match stacked(alloc, grid) {
+        Ok(o) => Ok(Value::Array(o)),
+        Err(Or::Is(kind)) => Err(Or::Is(kind)),
+        Err(Or::Memory) => Err(Or::Memory),
+    }
 }
 
 /// The arrays of all rows.
@@ -157,8 +174,8 @@ fn across(alloc: Global, row: &[&Arr]) -> Result<Arr, Or<ErrKind>>
 }
 
 fn across_from(alloc: Global, mut joint: Arr, mut row: &[&Arr]) -> Result<Arr, Or<ErrKind>>
-    ensures ok { IfOk result (λ o. joined_to concat_h_of joint.entry (map (λ a. a.now) row.entry.now) ≡ Ok o) }
-    ensures err { (kind : ErrKind) → result ≡ Err (Or.Is kind) → joined_to concat_h_of joint.entry (map (λ a. a.now) row.entry.now) ≡ Err kind }
+    ensures ok { IfOk result (λ o. joined_to concat_h_of joint (map (λ a. a.now) row.entry.now) ≡ Ok o) }
+    ensures err { (kind : ErrKind) → result ≡ Err (Or.Is kind) → joined_to concat_h_of joint (map (λ a. a.now) row.entry.now) ≡ Err kind }
 {
     while let [a, more @ ..] = row {
         joint = concat_h(alloc, &joint, a)?;
@@ -179,8 +196,8 @@ fn down(alloc: Global, lines: &[Arr]) -> Result<Arr, Or<ErrKind>>
 }
 
 fn down_from(alloc: Global, mut joint: Arr, mut lines: &[Arr]) -> Result<Arr, Or<ErrKind>>
-    ensures ok { IfOk result (λ o. joined_to concat_v_of joint.entry lines.entry.now ≡ Ok o) }
-    ensures err { (kind : ErrKind) → result ≡ Err (Or.Is kind) → joined_to concat_v_of joint.entry lines.entry.now ≡ Err kind }
+    ensures ok { IfOk result (λ o. joined_to concat_v_of joint lines.entry.now ≡ Ok o) }
+    ensures err { (kind : ErrKind) → result ≡ Err (Or.Is kind) → joined_to concat_v_of joint lines.entry.now ≡ Err kind }
 {
     while let [a, more @ ..] = lines {
         joint = concat_v(alloc, &joint, a)?;
