@@ -18,3 +18,6 @@ column_class a j valid col =
     All-from_get_or (IsCell a.class) (column_of a j).cells (pos 0) (λ k within.
     let row : k < a.rows = omega (arith, length-map-range_with_len (λ r. cell_at a r j) 0 a.rows) in
     subst (IsCell a.class) (sym (get_or-map-range_with_len (λ r. cell_at a r j) 0 a.rows k k (pos 0) row (omega arith))) (inside a k j valid row col))
+
+pub cell_class : (a : Array) (j : ℕ) → IsValid a → a.rows ≡ 1 → j < a.cols → IsCell a.class (cell_at a 0 j)
+cell_class a j valid row col = inside a 0 j valid (omega (arith, row)) col

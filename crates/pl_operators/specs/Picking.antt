@@ -1,6 +1,6 @@
 -- Indexing of values: what an index selects, assigns and deletes, what `end` stands for, and what braces read.
 use Rattle.std.specs.List.{list_any}
-use Rattle.std.specs.Prelude.{is_ok, Bool, not, ℕ, ◌+◌, ◌-◌, ◌*◌, ◌==◌, ℤ, pos, unsigned_abs, int_lt, List, [], ◌∷◌, ◌++◌, length, slice_index_or, slice_get, slice_set, Option, Some, None, Result, Ok, Err, nat_lt, if◌then◌else◌}
+use Rattle.std.specs.Prelude.{is_ok, Bool, true, false, not, ℕ, ◌+◌, ◌-◌, ◌*◌, ◌==◌, ℤ, pos, unsigned_abs, int_lt, List, [], ◌∷◌, ◌++◌, length, slice_index_or, slice_get, slice_set, Option, Some, None, Result, Ok, Err, nat_lt, if◌then◌else◌}
 use Rattle.pl_base.specs.declared.errors.ErrKind.{ErrKind}
 use Rattle.pl_base.specs.declared.errors.ErrKind.TheVariants.{BadKind, BadIndex, IndexRange, CompositeUnset}
 use Rattle.pl_array.specs.Arrays.{Array, single_of}
@@ -163,3 +163,27 @@ brace_at layer k = Err BadKind
 -- the value of worker k in a Composite
 abbrev pub brace_value : Value → Value → Result Value ErrKind
 brace_value c k = brace_at (out-Value c) k
+
+-- a value that a worker can be given from outside of the block: no Composite and nothing codistributed
+abbrev pub is_keepable_at : Value-F Value → Bool
+is_keepable_at (Value-F.Part part) = false
+is_keepable_at (Value-F.Composite held) = false
+is_keepable_at (Value-F.Whole parts) = false
+is_keepable_at layer = true
+
+abbrev pub is_keepable : Value → Bool
+is_keepable v = is_keepable_at (out-Value v)
+
+-- the values of the workers with another one for this worker, from 1
+abbrev pub put_worker : List (Option Value) → Value → ℕ → Result Value ErrKind
+put_worker held v worker =
+    if nat_lt (length held) worker then Err BadIndex else
+    if is_keepable v then Ok (value.Composite (slice_set held (worker - 1) (Some v))) else Err BadKind
+
+abbrev pub assign_brace_at : Value-F Value → Value → Value → Result Value ErrKind
+assign_brace_at (Value-F.Composite held) k v = and_then (array_in k) (λ a. and_then (subscript (single_of a)) (put_worker held v))
+assign_brace_at layer k v = Err BadKind
+
+-- a Composite with another value for worker k
+abbrev pub assign_brace : Value → Value → Value → Result Value ErrKind
+assign_brace c k v = assign_brace_at (out-Value c) k v

@@ -1,13 +1,9 @@
-//! What `end` stands for, and what braces read.
+//! What `end` stands for.
 
-ghost use Rattle.std.specs.Prelude.{◌≡◌, Some, Ok, Err, MatchResult};
+ghost use Rattle.std.specs.Prelude.{◌≡◌, Some};
 ghost use Rattle.std.specs.Option.{option_copied};
-ghost use Rattle.pl_values.specs.declared.value.Value.{out-Value};
-ghost use Rattle.pl_values.specs.declared.value.Value.TheOpen.{Value-F};
-ghost use Rattle.pl_operators.specs.Picking.{extent_at, row_size, scheme_size, whole_size, extent_of, readable_at, brace_at, brace_value};
+ghost use Rattle.pl_operators.specs.Picking.{extent_at, row_size, scheme_size, whole_size, extent_of};
 
-use crate::indexing::subscript;
-use crate::operands::array_of;
 use pl_base::ErrKind;
 use pl_scheme::{Scheme, Size};
 use pl_values::{CoPart, Value};
@@ -82,37 +78,5 @@ fn size_of_parts(parts: &[CoPart]) -> Size
     match parts {
         [] => Size { rows: 0, cols: 0 },
         [part, ..] => size_of(&part.scheme),
-    }
-}
-
-/// The value of worker k in a Composite. `BadIndex` for a k that is no worker, `CompositeUnset` where the worker
-/// has no value, `BadKind` where it has a part, or anything but a Composite stands before the braces.
-pub fn brace<'v>(c: &'v Value, k: &Value) -> Result<&'v Value, ErrKind>
-    ensures { MatchResult result (λ v. brace_value c.now k.now ≡ Ok v.now) (λ kind. brace_value c.now k.now ≡ Err kind) }
-{
-    match c {
-        Value::Composite(held) => held_by(held.as_slice(), k),
-        _ => Err(ErrKind::BadKind),
-    }
-}
-
-fn held_by<'v>(held: &'v [Option<Value>], k: &Value) -> Result<&'v Value, ErrKind>
-    ensures { MatchResult result (λ v. brace_at (Value-F.Composite held.now) k.now ≡ Ok v.now) (λ kind. brace_at (Value-F.Composite held.now) k.now ≡ Err kind) }
-{
-    let a = array_of(k)?;
-    let worker = subscript(a.single())?;
-    match held.get(worker.saturating_sub(1) as usize) {
-        None => Err(ErrKind::BadIndex),
-        Some(None) => Err(ErrKind::CompositeUnset),
-        Some(Some(v)) => readable(v),
-    }
-}
-
-fn readable(v: &Value) -> Result<&Value, ErrKind>
-    ensures { MatchResult result (λ o. readable_at v.now (out-Value v.now) ≡ Ok o.now) (λ kind. readable_at v.now (out-Value v.now) ≡ Err kind) }
-{
-    match v {
-        Value::Part(_) => Err(ErrKind::BadKind),
-        _ => Ok(v),
     }
 }

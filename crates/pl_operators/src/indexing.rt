@@ -1,6 +1,6 @@
 //! The index that arguments make.
 
-ghost use Rattle.std.specs.Prelude.{◌≡◌, [], ◌∷◌, IfOk};
+ghost use Rattle.std.specs.Prelude.{◌≡◌, [], ◌∷◌, ◌<◌, IfOk};
 ghost use Rattle.std.specs.List.{list_any};
 ghost use Rattle.pl_operators.specs.Picking.{position_of, is_no_position, index_refusal, index_of, subscript as subscript_of, single_index};
 
@@ -92,7 +92,8 @@ pub(crate) fn single(at: &Index) -> Result<u64, ErrKind>
 
 /// A number as a subscript, from 1.
 pub(crate) fn subscript(z: Option<i64>) -> Result<u64, ErrKind>
-    ensures { result ≡ subscript_of z }
+    ensures is { result ≡ subscript_of z }
+    ensures from_one { IfOk result (λ k. 0 < k) }
 {
     match z {
         Some(z) if z >= 1 => Ok(z.unsigned_abs()),

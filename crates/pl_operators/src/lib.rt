@@ -10,6 +10,7 @@
 
 mod argument;
 mod assigning;
+mod braces;
 mod bracketing;
 mod extents;
 mod for_columns;
@@ -22,10 +23,11 @@ mod ranging;
 mod showing;
 mod truth;
 
-pub use argument::Argument;
+pub use argument::{Argument, given};
 pub use assigning::assign_value;
+pub use braces::{assign_brace, brace};
 pub use bracketing::rows;
-pub use extents::{brace, extent};
+pub use extents::extent;
 pub use for_columns::{column, columns};
 pub use indexing::index;
 pub use literals::{chars, number};
@@ -34,3 +36,6 @@ pub use picking::{delete_value, select_value};
 pub use ranging::range;
 pub use showing::shown;
 pub use truth::{case_fits, condition, logical, switch};
+
+#[cfg(test)]
+mod tests;

@@ -5,7 +5,7 @@ use Rattle.pl_array.specs.Arrays.{IsCell, cell_at}
 use Rattle.pl_array.specs.declared.class.Class.{Class}
 use Rattle.pl_array.specs.declared.class.Shape.{Shape}
 use Rattle.pl_operators.proofs.ColumnCells.{column_count, column_class}
-use Rattle.pl_operators.proofs.for_columns.column.Goals as goal
+use Rattle.pl_operators.proofs.for_columns.tall_column.Goals as goal
 
 pub new-requires-clause-count : goal.new-requires-clause-count
 new-requires-clause-count c =
