@@ -1,0 +1,3 @@
+pub mod Occurrences
+pub mod Functions
+pub mod Scopes

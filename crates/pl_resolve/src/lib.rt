@@ -5,10 +5,23 @@
 //! is a function, by its number. The rules are those of the MATLAB documentation on workspaces, narrowed.
 #![tactic(auto)]
 
+mod expressions;
 mod fault;
+mod functions;
+mod occurrence;
 mod resolved;
+mod resolving;
 mod scope;
+mod statements;
 
 pub use fault::NameFault;
+pub use functions::Functions;
+pub use occurrence::{Occurrence, Use};
+pub use pl_values::{CoPart, Env, PartScheme, Serial, Value};
 pub use resolved::Resolved;
+pub use resolving::resolve;
 pub use scope::Scope;
+pub use statements::occurrences;
+
+#[cfg(test)]
+mod tests;

@@ -62,6 +62,19 @@ impl Scheme2dbc {
         })
     }
 
+    /// An equal scheme.
+    pub fn copy(&self) -> Scheme2dbc
+        ensures { result ≡ self.now }
+    {
+        Scheme2dbc {
+            p: self.p,
+            q: self.q,
+            blk: self.blk,
+            by_rows: self.by_rows,
+            size: self.size,
+        }
+    }
+
     /// The grid's rows.
     pub fn p(&self) -> u32
         ensures { result ≡ self.now.p }

@@ -1,12 +1,13 @@
 //! A partition of the rows or of the columns.
 
-ghost use Rattle.std.specs.Prelude.{◌≡◌, ◌^◌, ◌<◌, ◌≤◌, ◌==◌, length};
+ghost use Rattle.std.specs.Prelude.{◌≡◌, ◌^◌, ◌<◌, ◌≤◌, ◌==◌, length, IfOk};
 ghost use Rattle.std.specs.List.{sum};
 ghost use Rattle.pl_scheme.specs.Schemes.{along, partitioned};
 
 use crate::fault::SchemeFault;
 use crate::size::Size;
-use pl_base::Seq;
+use pl_base::{NoMemory, Seq};
+use std::alloc::Global;
 use std::marker::Model;
 
 /// A partition: dimension 1 divides the rows, dimension 2 the columns, and each worker in order has the
@@ -47,6 +48,18 @@ impl Scheme1d {
         }
         let part = Seq::of(part);
         Ok(Scheme1d { dim, part, size })
+    }
+
+    /// An equal partition.
+    pub fn copy(&self, alloc: Global) -> Result<Scheme1d, NoMemory>
+        ensures { IfOk result (λ s. s ≡ self.now) }
+    {
+        let part = Vec::from_slice(alloc, self.part.items())?;
+        Ok(Scheme1d {
+            dim: self.dim,
+            part: Seq::of(part),
+            size: self.size,
+        })
     }
 
     /// The dimension that is divided.

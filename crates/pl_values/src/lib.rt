@@ -7,8 +7,13 @@
 #![tactic(auto)]
 
 mod env;
+mod layers;
+mod plain;
 mod slots;
 mod value;
 
 pub use env::Env;
 pub use value::{CoPart, PartScheme, Serial, Value};
+
+#[cfg(test)]
+mod tests;

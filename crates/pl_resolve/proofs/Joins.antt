@@ -1,0 +1,26 @@
+-- The names of rows, row by row.
+use Rattle.std.proofs.Common.{◌≡◌, ℕ, zero, suc, ◌≤◌, ◌++◌, List, [], ◌∷◌, map, drop, length, refl, sym, ap, ◌∙◌, arith}
+use Rattle.std.proofs.lemmas.List.{append-nil}
+use Rattle.std.proofs.Math.ListN.{drop_of_length-le}
+use Rattle.pl_syntax.specs.declared.expr.Expr.{Expr, fold_out-Expr}
+use Rattle.pl_syntax.specs.declared.expr.ExprKind.{fold-ExprKind, fold-roll-ExprKind}
+use Rattle.pl_syntax.specs.declared.expr.ExprKind.TheOpen.{ExprKind-F}
+use Rattle.pl_syntax.specs.declared.expr.ExprKind.TheVariants.{Rows, rolls-Rows}
+use Rattle.pl_resolve.specs.declared.occurrence.Occurrence.{Occurrence}
+use Rattle.pl_resolve.specs.Occurrences.{joined, of_kind, of_layer, of_expr, of_exprs}
+
+pub rows_joined : (rows : List (List Expr)) → joined (map of_exprs rows) ≡ joined (map joined (map (map of_expr) rows))
+rows_joined [] = refl
+rows_joined (row ∷ rows) = ap (λ l. of_exprs row ++ l) (rows_joined rows)
+
+-- behind the end nothing is left
+pub all_dropped : {A : Type 0} (names : A → List Occurrence) (list : List A) (i : ℕ) → length list ≤ i → (out : List Occurrence) → out ≡ out ++ joined (map names (drop i list))
+all_dropped names list i past out = sym (append-nil out) ∙ ap (λ l. out ++ joined (map names l)) (sym (drop_of_length-le list past))
+
+-- the names of a bracket
+pub at_rows : (e : Expr) (rows : List (List Expr)) → e.kind ≡ Rows rows → of_expr e ≡ joined (map of_exprs rows)
+at_rows e rows is =
+    fold_out-Expr (List Occurrence) (List Occurrence) of_kind of_layer e
+    ∙ ap (fold-ExprKind (List Occurrence) (List Occurrence) of_kind of_layer) (is ∙ sym (rolls-Rows rows))
+    ∙ fold-roll-ExprKind (List Occurrence) (List Occurrence) of_kind of_layer (ExprKind-F.Rows rows)
+    ∙ sym (rows_joined rows)
