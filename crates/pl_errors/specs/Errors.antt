@@ -1,5 +1,5 @@
 -- The kinds of script errors: their numbers, names and texts, and the line that tells one.
-use Rattle.std.specs.Prelude.{ℕ, List, [], ◌∷◌, ◌++◌, codes}
+use Rattle.std.specs.Prelude.{ℕ, List, [], ◌++◌, codes}
 use Rattle.std.specs.Fmt.{decimal}
 use Rattle.pl_base.specs.declared.errors.ErrKind.{ErrKind}
 use Rattle.pl_base.specs.declared.errors.ErrKind.TheVariants.{SizeMismatch, ConcatMismatch, CharRange, SizeLimit, NegativePower, MatrixOp, RangeArg, BadIndex, IndexRange, GrowAmbiguous, AssignSize, DeleteShape, NoValue, TempUnset, ArgCount, ArgClass, ArgRange, BadKind, NotScalar, OutputUnset, FormatBad, User, Spent, TooDeep, WrongPlace, SliceScalar, SliceUnset, MixedClass, MergeSize, NoUnread, Cancelled, CompositeUnset, Deadlock, CollectiveMismatch, PartSum, GridSize, BlockZero, LocalSize, SchemeMismatch, NotInReduction, Overflow}

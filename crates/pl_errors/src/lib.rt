@@ -10,3 +10,6 @@ mod raising;
 
 pub use kinds::{message, name, number};
 pub use raising::{raise, write_line};
+
+#[cfg(test)]
+mod tests;
