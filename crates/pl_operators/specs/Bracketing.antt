@@ -1,5 +1,5 @@
 -- Square brackets, and the values of literals.
-use Rattle.std.specs.Prelude.{ℕ, ◌==◌, ℤ, pos, Bool, false, true, not, ◌&&◌, List, [], ◌∷◌, map, take, length, Result, Ok, Err, if◌then◌else◌}
+use Rattle.std.specs.Prelude.{ℕ, ◌==◌, ℤ, pos, Bool, false, true, not, ◌&&◌, List, [], ◌∷◌, map, take, length, Result, Ok, if◌then◌else◌}
 use Rattle.std.specs.List.{flat_map, list_any}
 use Rattle.pl_base.specs.declared.errors.ErrKind.{ErrKind}
 use Rattle.pl_array.specs.declared.class.Class.TheVariants.{Int, Char}

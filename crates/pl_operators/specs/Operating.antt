@@ -1,5 +1,5 @@
 -- What the operators make of values, and the truth of a value where the language asks for one.
-use Rattle.std.specs.Prelude.{◌*◌, ◌==◌, ℤ, pos, Bool, true, false, not, ◌&&◌, ◌||◌, [], ◌∷◌, length, Option, Some, None, Result, Ok, Err, if◌then◌else◌}
+use Rattle.std.specs.Prelude.{◌*◌, ◌==◌, ℤ, pos, Bool, false, not, ◌&&◌, ◌||◌, [], ◌∷◌, length, Option, Some, None, Result, Ok, Err, if◌then◌else◌}
 use Rattle.std.specs.List.{list_any}
 use Rattle.std.specs.Ordering.{int_eq}
 use Rattle.std.specs.Cmp.Lexicographic.{pointwise}

@@ -7,7 +7,7 @@ ghost use Rattle.std.specs.Prelude.{◌≡◌, map, [], ◌∷◌, not, IfOk};
 ghost use Rattle.std.specs.List.{flat_map, list_any};
 ghost use Rattle.pl_array.specs.Joining.{concat_h_of, concat_v_of};
 ghost use Rattle.pl_operators.specs.Operands.{arrays_in};
-ghost use Rattle.pl_operators.specs.Bracketing.{grid_in, joined_to, joined_all, lines_of as lines_in, stacked as stacked_of, matrix_of, is_futures as is_futures_row, calls_in, are_futures, rows_of};
+ghost use Rattle.pl_operators.specs.Bracketing.{grid_in, joined_to, joined_all, lines_of as lines_in, stacked as stacked_of, matrix_of, is_futures as is_futures_row, calls_in, rows_of};
 
 use crate::literals::nothing;
 use crate::operands::operand;

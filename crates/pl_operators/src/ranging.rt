@@ -3,10 +3,9 @@
 //! Promised: the operands are tested for arrays from the left, then for 1x1, then the count, before any memory is
 //! taken; number k of the row is first + k * step, exactly, also where the next one would be no 64-bit number.
 
-ghost use Rattle.std.specs.Prelude.{◌≡◌, ℕ, ◌<◌, ◌≤◌, ◌+ℤ◌, ◌*ℤ◌, pos, Some, None, FitsSigned, IfOk, MatchResult};
+ghost use Rattle.std.specs.Prelude.{◌≡◌, ℕ, ◌<◌, ◌+ℤ◌, ◌*ℤ◌, pos, Some, None, FitsSigned, IfOk, MatchResult};
 ghost use Rattle.std.specs.Int.{w64};
 ghost use Rattle.std.specs.Option.{option_copied};
-ghost use Rattle.pl_array.specs.Arrays.{most};
 ghost use Rattle.pl_operators.specs.Ranging.{steps_up, range_count, range_cells, range_row, range_by, step_in, range_of};
 
 use crate::operands::operand;

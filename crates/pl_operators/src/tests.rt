@@ -1,9 +1,7 @@
 //! Each call on a few values, by one table. The answers were worked out by hand from the rules.
 
-ghost use Rattle.std.specs.Prelude.{◌≡◌};
-
 use super::*;
-use pl_array::{Arr, Class, concat_h, concat_v, convert};
+use pl_array::{Arr, Class, concat_h, concat_v};
 use pl_base::{ErrKind, Mode, Or, Seq};
 use pl_syntax::{Bin, Un};
 use pl_values::Value;

@@ -1,5 +1,5 @@
 -- The cells of a column are as many as the rows, and of the class.
-use Rattle.std.proofs.Common.{ℤ, ℕ, ◌*◌, ◌≡◌, List, length, ap, sym, subst, ◌∙◌}
+use Rattle.std.proofs.Common.{ℤ, ℕ, ◌*◌, ◌≡◌, List, ap, sym, subst, ◌∙◌}
 use Rattle.std.specs.List.{All}
 use Rattle.pl_array.specs.Arrays.{IsCell, cell_at}
 use Rattle.pl_array.specs.declared.class.Class.{Class}

@@ -1,5 +1,5 @@
 -- Each number of the range fits, and there are as many as were counted.
-use Rattle.std.proofs.Common.{ℤ, ℕ, ◌≡◌, ◌<◌, to_z, of_z, ◌+ℤ◌, ◌*ℤ◌, pos, w64, FitsSigned, length, sym, subst, ap, ◌∙◌, arith}
+use Rattle.std.proofs.Common.{ℕ, ◌<◌, to_z, of_z, ◌+ℤ◌, ◌*ℤ◌, pos, w64, FitsSigned, length, sym, subst, ap, ◌∙◌, arith}
 use Rattle.std.proofs.lemmas.Int.{to_z-of_z}
 use Rattle.std.proofs.lemmas.List.FromFn.{length-map-range_with_len}
 use Rattle.pl_operators.proofs.Ranges.{range_fits}
