@@ -235,7 +235,7 @@ fn extent_number(v: Option<&Value>, position: &str, count: &str) -> Result<Value
     let position = position.parse::<usize>().unwrap_or(0);
     let count = count.parse::<usize>().unwrap_or(0);
     match extent(v, position, count) {
-        Ok(n) => Ok(number(n as i64)),
+        Ok(n) => Ok(number(i64::try_from(n).unwrap_or(0))),
         Err(kind) => Err(Or::Is(kind)),
     }
 }
@@ -248,46 +248,90 @@ fn column_value(alloc: Global, v: &Value, j: &str) -> Result<Value, Or<ErrKind>>
     }
 }
 
-fn answer(
-    alloc: Global,
-    call: &str,
-    a: &str,
-    b: &str,
-    c: &str,
-) -> Result<Result<Value, Or<ErrKind>>, Fail> {
+type Answer = Result<Value, Or<ErrKind>>;
+
+fn by_operator(alloc: Global, op: Bin, a: &str, b: &str) -> Result<Answer, Fail> {
+    let x = value(alloc, a)?;
+    let y = value(alloc, b)?;
+    Ok(binary(alloc, Mode::Saturate, op, &x, &y))
+}
+
+fn by_sign(alloc: Global, op: Un, a: &str) -> Result<Answer, Fail> {
+    let x = value(alloc, a)?;
+    Ok(unary(alloc, Mode::Saturate, op, &x))
+}
+
+fn by_range(alloc: Global, a: &str, b: &str) -> Result<Answer, Fail> {
+    let x = value(alloc, a)?;
+    let y = value(alloc, b)?;
+    Ok(range(alloc, &x, None, &y))
+}
+
+fn by_steps(alloc: Global, a: &str, b: &str, c: &str) -> Result<Answer, Fail> {
+    let x = value(alloc, a)?;
+    let y = value(alloc, b)?;
+    let z = value(alloc, c)?;
+    Ok(range(alloc, &x, Some(&y), &z))
+}
+
+fn by_brackets(alloc: Global, a: &str) -> Result<Answer, Fail> {
+    let all = grid(alloc, a)?;
+    Ok(rows(alloc, all.as_slice()))
+}
+
+fn by_index(alloc: Global, a: &str, b: &str) -> Result<Answer, Fail> {
+    let x = value(alloc, a)?;
+    let at = arguments(alloc, b)?;
+    Ok(select_value(alloc, &x, at.as_slice()))
+}
+
+fn by_assignment(alloc: Global, a: &str, b: &str, c: &str) -> Result<Answer, Fail> {
+    let x = held(alloc, a)?;
+    let at = arguments(alloc, b)?;
+    let v = value(alloc, c)?;
+    Ok(assigned(alloc, x, at.as_slice(), &v))
+}
+
+fn by_deletion(alloc: Global, a: &str, b: &str) -> Result<Answer, Fail> {
+    let x = value(alloc, a)?;
+    let at = arguments(alloc, b)?;
+    Ok(deleted(alloc, x, at.as_slice()))
+}
+
+fn by_end(alloc: Global, a: &str, b: &str, c: &str) -> Result<Answer, Fail> {
+    let x = held(alloc, a)?;
+    Ok(extent_number(x.as_ref(), b, c))
+}
+
+fn by_column(alloc: Global, a: &str, b: &str) -> Result<Answer, Fail> {
+    let x = value(alloc, a)?;
+    Ok(column_value(alloc, &x, b))
+}
+
+fn by_truth(alloc: Global, call: &str, a: &str, b: &str) -> Result<Answer, Fail> {
+    let x = value(alloc, a)?;
+    let y = value(alloc, b)?;
+    Ok(truth_by(call, &x, &y))
+}
+
+fn answer(alloc: Global, call: &str, a: &str, b: &str, c: &str) -> Result<Answer, Fail> {
     if let Some(op) = binary_by(call) {
-        return Ok(binary(
-            alloc,
-            Mode::Saturate,
-            op,
-            &value(alloc, a)?,
-            &value(alloc, b)?,
-        ));
+        return by_operator(alloc, op, a, b);
     }
     if let Some(op) = unary_by(call) {
-        return Ok(unary(alloc, Mode::Saturate, op, &value(alloc, a)?));
+        return by_sign(alloc, op, a);
     }
-    Ok(match call {
-        ":" => range(alloc, &value(alloc, a)?, None, &value(alloc, b)?),
-        "::" => range(
-            alloc,
-            &value(alloc, a)?,
-            Some(&value(alloc, b)?),
-            &value(alloc, c)?,
-        ),
-        "[]" => rows(alloc, grid(alloc, a)?.as_slice()),
-        "()" => select_value(alloc, &value(alloc, a)?, arguments(alloc, b)?.as_slice()),
-        "=" => assigned(
-            alloc,
-            held(alloc, a)?,
-            arguments(alloc, b)?.as_slice(),
-            &value(alloc, c)?,
-        ),
-        "del" => deleted(alloc, value(alloc, a)?, arguments(alloc, b)?.as_slice()),
-        "end" => extent_number(held(alloc, a)?.as_ref(), b, c),
-        "for" => column_value(alloc, &value(alloc, a)?, b),
-        _ => truth_by(call, &value(alloc, a)?, &value(alloc, b)?),
-    })
+    match call {
+        ":" => by_range(alloc, a, b),
+        "::" => by_steps(alloc, a, b, c),
+        "[]" => by_brackets(alloc, a),
+        "()" => by_index(alloc, a, b),
+        "=" => by_assignment(alloc, a, b, c),
+        "del" => by_deletion(alloc, a, b),
+        "end" => by_end(alloc, a, b, c),
+        "for" => by_column(alloc, a, b),
+        _ => by_truth(alloc, call, a, b),
+    }
 }
 
 /// An answer as the table writes it.
