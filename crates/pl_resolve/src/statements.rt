@@ -1,7 +1,7 @@
 //! The names of statements.
 
-ghost use Rattle.std.specs.Prelude.{◌≡◌, ◌++◌, map, IfOk, OnOk};
-ghost use Rattle.pl_resolve.specs.Occurrences.{joined, of_target, of_targets, of_arm, of_arms, of_stmt, of_block};
+ghost use Rattle.std.specs.Prelude.{◌≡◌, ◌++◌, IfOk, OnOk};
+ghost use Rattle.pl_resolve.specs.Occurrences.{of_target, of_targets, of_arms, of_stmt, of_block};
 
 use crate::expressions::{add, add_expr, add_exprs};
 use crate::occurrence::{Occurrence, Use};

@@ -1,6 +1,6 @@
 //! Changes over a base that is only read.
 
-ghost use Rattle.std.specs.Prelude.{◌≡◌, ◌<◌, ◌↔◌, IsTrue, IsSome, is_some, List, [], Option, None, Some, false, length, map, nat_eq, replicate, slice_set, IfOk, OnOk, OnErr, MatchResult};
+ghost use Rattle.std.specs.Prelude.{◌≡◌, is_some, List, [], Option, None, Some, false, length, map, nat_eq, replicate, slice_set, IfOk, OnOk, OnErr};
 ghost use Rattle.std.specs.Map.{lookup};
 ghost use Rattle.std.specs.Option.{option_copied};
 ghost use Rattle.pl_values.specs.declared.value.Value.{Value as Held};

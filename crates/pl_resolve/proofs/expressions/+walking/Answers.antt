@@ -1,4 +1,4 @@
-use Rattle.std.proofs.Common.{◌≡◌, ◌++◌, ◌∙◌, sym, ap, map, drop, rules}
+use Rattle.std.proofs.Common.{◌≡◌, ◌++◌, ◌∙◌, sym, ap, map}
 use Rattle.pl_resolve.specs.Occurrences.{joined, of_expr, of_exprs}
 use Rattle.pl_resolve.proofs.Joins.{at_rows, all_dropped}
 use Rattle.pl_resolve.proofs.expressions.+walking.Goals as goal
