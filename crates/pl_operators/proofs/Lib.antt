@@ -1,0 +1,5 @@
+mod Converted
+mod ColumnCells
+mod Ranges
+mod Characters
+mod Fronts

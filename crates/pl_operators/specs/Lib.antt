@@ -1,0 +1,7 @@
+pub mod Operands
+pub mod Operating
+pub mod Ranging
+pub mod Bracketing
+pub mod Picking
+pub mod Columns
+pub mod Showing
