@@ -1,7 +1,9 @@
 -- What the laws about the machine share: tests, room, and what may follow an operand.
 use Rattle.std.proofs.Common.{◌≡◌, ◌∙◌, ℕ, suc, zero, ◌+◌, ◌≤◌, Bool, true, false, not, ◌&&◌, ◌||◌, if◌then◌else◌, Option, Some, None, List, [], ◌∷◌, length, Ok, Err, refl, ap, sym, arith}
 use Rattle.std.specs.Prelude.{nat_le, is_some}
-use Rattle.std.proofs.lemmas.Bool.{le-leb, leb-true}
+use Rattle.std.specs.Prelude.{max}
+use Rattle.std.proofs.Math.Nat.{le-max_left, le-max_right}
+use Rattle.std.proofs.lemmas.Bool.{le-leb}
 use Rattle.pl_syntax.specs.declared.expr.Bin.{Bin}
 use Rattle.pl_syntax.specs.declared.expr.Bin.TheVariants as bin
 use Rattle.pl_grammar.specs.declared.terminal.Terminal.{Terminal}
@@ -19,6 +21,12 @@ use Rattle.pl_grammar.specs.Steps.{Step, Answer, refused, roomy, room, reduce, o
 
 pub has_room : (r : Rules) (n : ℕ) → n ≤ r.limit → room r n ≡ true
 has_room r n h = le-leb n r.limit h
+
+pub left_room : (a b n l : ℕ) → max a b + n ≤ l → a + n ≤ l
+left_room a b n l h = omega (arith, h, le-max_left a b)
+
+pub right_room : (a b n l : ℕ) → max a b + n ≤ l → b + n ≤ l
+right_room a b n l h = omega (arith, h, le-max_right a b)
 
 pub at_least : (l k : ℕ) → l ≤ k → nat_le l k ≡ true
 at_least l k h = le-leb l k h
