@@ -168,7 +168,7 @@ module _ (r : Rules) where
   additive_bin minus = refl
 
   -- a sign in front of an operand
-  read_sign : (s : Sign) (m : Mark) (S : Stack) (ts : List Terminal) → Accepts S 9 → suc (nests S) ≤ r.limit
+  pub read_sign : (s : Sign) (m : Mark) (S : Stack) (ts : List Terminal) → Accepts S 9 → suc (nests S) ≤ r.limit
       → run r (operand S) (term (sign_word s) m ∷ ts) ≡ run r (operand (op_of (signed m s) S)) ts
   read_sign (additive a) m S ts h l = rw (additive_bin a, plain_sign (additive a) m S h, has_room r (suc (nests S)) l) refl
   read_sign tilde m S ts h l = rw (plain_sign tilde m S h, has_room r (suc (nests S)) l) refl
