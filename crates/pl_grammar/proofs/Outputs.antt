@@ -103,22 +103,22 @@ element_tgt q (entire n) = refl
 element_tgt q (indexed n m a z) = refl
 element_tgt q (in_braces n m e z) = refl
 
-tgt_words : (t : Tgt) (ts : List Terminal) → ex (tgt_ex t) ts ≡ tgt t ts
+pub tgt_words : (t : Tgt) (ts : List Terminal) → ex (tgt_ex t) ts ≡ tgt t ts
 tgt_words (entire n) ts = refl
 tgt_words (indexed n m a z) ts = refl
 tgt_words (in_braces n m e z) ts = refl
 
-sound_tgt : (row index : Bool) (t : Tgt) → SoundTgt row t → SoundEx row index (tgt_ex t)
+pub sound_tgt : (row index : Bool) (t : Tgt) → SoundTgt row t → SoundEx row index (tgt_ex t)
 sound_tgt row index (entire n) h = tt
 sound_tgt row index (indexed n m a z) h = (tt, h.0, h.1)
 sound_tgt row index (in_braces n m e z) h = h
 
-tgt_ex_height : (t : Tgt) → height (tgt_ex t) ≡ tgt_height t
+pub tgt_ex_height : (t : Tgt) → height (tgt_ex t) ≡ tgt_height t
 tgt_ex_height (entire n) = refl
 tgt_ex_height (indexed n m a z) = omega (arith, Rattle.std.proofs.Math.Nat.max-eq_right {n = 0} {m = suc (args_height a)} (omega arith))
 tgt_ex_height (in_braces n m e z) = refl
 
-tgt_ex_tight : (t : Tgt) → tightness (tgt_ex t) ≡ 11
+pub tgt_ex_tight : (t : Tgt) → tightness (tgt_ex t) ≡ 11
 tgt_ex_tight (entire n) = refl
 tgt_ex_tight (indexed n m a z) = refl
 tgt_ex_tight (in_braces n m e z) = refl
