@@ -85,7 +85,7 @@ weak_range (args_of c m p S) h = tt
 weak_range (brace_of n m S) h = tt
 weak_range (row_of m rs p S) h = tt
 
-pick : {A : Type 0} (P : A → Type 0) (v : Bool) (x y : A) → P x → P y → P (if v then x else y)
+pub pick : {A : Type 0} (P : A → Type 0) (v : Bool) (x y : A) → P x → P y → P (if v then x else y)
 pick P true x y h j = h
 pick P false x y h j = j
 

@@ -1,0 +1,171 @@
+-- A step leaves what has been told: the terminals that the next state stands for, and the rest, are those that
+-- the state stood for, the terminal, and the rest.
+use Rattle.std.proofs.Common.{◌≡◌, ◌∙◌, ℕ, suc, ◌+◌, Bool, true, false, not, ◌&&◌, if◌then◌else◌, Option, Some, None, List, [], ◌∷◌, length, Ok, Err, refl, ap, sym, subst}
+use Rattle.std.specs.Prelude.{nat_le, nat_eq, codes}
+use Rattle.std.specs.Cmp.{first_so, second_so}
+use Rattle.std.specs.Cmp.Lexicographic.{pointwise}
+use Rattle.std.proofs.lemmas.Bool.{eqb-true}
+use Rattle.pl_syntax.specs.declared.expr.Bin.{Bin}
+use Rattle.pl_grammar.specs.declared.terminal.Terminal.{Terminal}
+use Rattle.pl_grammar.specs.declared.terminal.Word.{Word}
+use Rattle.pl_grammar.specs.declared.terminal.Word.TheVariants as w
+use Rattle.pl_grammar.specs.declared.terminal.Keyword.{Keyword}
+use Rattle.pl_grammar.specs.declared.terminal.Keyword.TheVariants as k
+use Rattle.pl_grammar.specs.Words.{Mark, term, mark_of, Named, named, Additive, bin_of, Sign, additive, tilde, sign_word, additive_of, is_power, SepKind, comma, semicolon, line, Sep, sep_word, Use, tests, loops, direct, plain, leaves, ends, defines, unused, use_of, is_link, follows, Dots, whole, stem, neither, dots, is_state}
+use Rattle.pl_grammar.specs.Derivations.{Head, alone, dotted, Signs, no_signs, more_signs, Comma, written, space, Trail, no_trail, trail, Ex, number, chars, bare, call, state, paren, rows, rows_to, func, last, under, transposed, Op, joined, signed, from, stepped, Callee, head, braced, Args, no_args, listed, Elements, one, also, Item, value, colon, Rows, no_rows, broken, filled, Tgt, entire, indexed, in_braces, Output, to, skip, Outputs, only, beside, Goal, shown, into, spread, Lead, test, each, Inner, each_in, bound, workers, Heading, upto, shut, no_value, Part, headed, unheaded, Smt, simple, delete, leave, compound, Block, empty, blank, statement, Opened, Param, taken, ignored, Params, Listing, no_params, params, Outs, no_outs, single, several, Given, no_list, given, Title, title, fun, Top, script, define, spaced, Prog, whole_of, unended}
+use Rattle.pl_grammar.specs.Spelling.{sep, signs, comma_words, trail_words, ex, op, callee, args, elements, item, row_words, tgt, output_words, outputs, goal, lead, inner, heading, part, smt, block, opened, param, param_words, listing, outs_words, given_words, title_words, top, prog}
+use Rattle.pl_grammar.specs.Sound.{has_state, strength}
+use Rattle.pl_grammar.specs.Programs.{Rules}
+use Rattle.pl_grammar.specs.Machine.{Pending, fresh, behind, Outgoing, fresh_outs, behind_outs, Waiting, fresh_params, behind_params, put, put_out, put_param, Site, main, body, within, Spot, here, linked, Stack, goal_of, lead_of, inner_of, outputs_of, op_of, paren_of, args_of, brace_of, row_of, Titling, begun_title, worded, outs_of, out_of, outs_shut, naming, entitled, params_of, param_of, titled, State, start, finished, operand, after, coloned, torn, at_sign, stemmed, dot, output, output_read, outputs_shut, loop, loop_in, index, index_in, ready, titling, between, pending_words, outgoing_words, waiting_words, site_words, spot_words, stack_words, told, enter, in_row, beginning}
+use Rattle.pl_grammar.specs.Steps
+use Rattle.pl_grammar.specs.Steps.{Step, Held, roomy, room, refused, reduce, run, step, onward, Answer, callee_tgt, tgt_of, set_out, set_tgt, pass, element_outputs, item_outputs, behind_all, row_outputs, pending_outputs, Outlist, as_outputs, called, embraced, read_operand, go_on, read_after, settle, ended}
+use Rattle.pl_grammar.proofs.Reading.{pick}
+
+-- the step leads to a state that stands for these terminals, with this rest
+abbrev pub Tells : Step → List Terminal → List Terminal → Type 0
+Tells (Ok st) rest ts = told st rest ≡ ts
+Tells (Err f) rest ts = Unit {0}
+
+roomy_tells : (v : Bool) (s : Step) (rest ts : List Terminal) → Tells s rest ts → Tells (roomy v s) rest ts
+roomy_tells true s rest ts h = h
+roomy_tells false (Ok st) rest ts h = tt
+roomy_tells false (Err f) rest ts h = tt
+
+retell : (s : Step) (rest ts us : List Terminal) → ts ≡ us → Tells s rest ts → Tells s rest us
+retell s rest ts us e h = subst (λ x. Tells s rest x) e h
+
+choose : (v : Bool) (s t : Step) (rest ts : List Terminal) → Tells s rest ts → Tells t rest ts → Tells (if v then s else t) rest ts
+choose v s t rest ts h j = pick (λ x. Tells x rest ts) v s t h j
+
+-- ---- operators, elements, outputs
+
+reduce_tells : (l : ℕ) (e : Ex) (S : Stack) (rest : List Terminal) → stack_words (reduce l e S).stack (ex (reduce l e S).operand rest) ≡ stack_words S (ex e rest)
+reduce_tells l e (goal_of g site b) rest = refl
+reduce_tells l e (lead_of i spot) rest = refl
+reduce_tells l e (inner_of i spot) rest = refl
+reduce_tells l e (outputs_of m p site b) rest = refl
+reduce_tells l e (op_of p S) rest = pick (λ h. stack_words h.stack (ex h.operand rest) ≡ stack_words S (op p (ex e rest))) (nat_le l (strength p)) (reduce l (under p e) S) (record { operand = e; stack = op_of p S }) (reduce_tells l (under p e) S rest) refl
+reduce_tells l e (paren_of m S) rest = refl
+reduce_tells l e (args_of c m p S) rest = refl
+reduce_tells l e (brace_of n m S) rest = refl
+reduce_tells l e (row_of m rs p S) rest = refl
+
+put_words : (p : Pending) (i : Item) (rest : List Terminal) → elements (put p i) rest ≡ pending_words p (item i rest)
+put_words fresh i rest = refl
+put_words (behind es c) i rest = refl
+
+put_out_words : (p : Outgoing) (o : Output) (rest : List Terminal) → outputs (put_out p o) rest ≡ outgoing_words p (output_words o rest)
+put_out_words fresh_outs o rest = refl
+put_out_words (behind_outs os c) o rest = refl
+
+put_param_words : (p : Waiting) (x : Param) (rest : List Terminal) → param_words (put_param p x) rest ≡ waiting_words p (param x rest)
+put_param_words fresh_params x rest = refl
+put_param_words (behind_params ps c) x rest = refl
+
+set_out_words : (p : Outgoing) (gap : Bool) (o : Output) (os : Outputs) (rest : List Terminal) → set_out p gap o ≡ Some os → outputs os rest ≡ outgoing_words p (output_words o rest)
+set_out_words fresh_outs gap o os rest h = let e : only o ≡ os = cc in ap (λ x. outputs x rest) (sym e)
+set_out_words (behind_outs x (written c)) gap o os rest h = let e : beside x (written c) o ≡ os = cc in ap (λ x. outputs x rest) (sym e)
+set_out_words (behind_outs x space) true o os rest h = let e : beside x space o ≡ os = cc in ap (λ x. outputs x rest) (sym e)
+set_out_words (behind_outs x space) false o os rest h = cc
+
+tgt_words : (e : Ex) (t : Tgt) (rest : List Terminal) → tgt_of e ≡ Some t → tgt t rest ≡ ex e rest
+tgt_words (bare (head (alone n))) t rest h = let e : entire n ≡ t = cc in ap (λ x. tgt x rest) (sym e)
+tgt_words (bare (head (dotted i m n))) t rest h = cc
+tgt_words (bare (braced n m e z)) t rest h = let e : in_braces n m e z ≡ t = cc in ap (λ x. tgt x rest) (sym e)
+tgt_words (call (head (alone n)) m a z) t rest h = let e : indexed n m a z ≡ t = cc in ap (λ x. tgt x rest) (sym e)
+tgt_words (call (head (dotted i j n)) m a z) t rest h = cc
+tgt_words (call (braced n i e j) m a z) t rest h = cc
+tgt_words (number m z) t rest h = cc
+tgt_words e t rest h = cc
+
+set_tgt_words : (p : Outgoing) (x : Option Tgt) (e : Ex) (os : Outputs) (rest : List Terminal) → tgt_of e ≡ x → set_tgt p x ≡ Some os → outputs os rest ≡ outgoing_words p (ex e rest)
+set_tgt_words p None e os rest g h = cc
+set_tgt_words p (Some t) e os rest g h = set_out_words p (Rattle.pl_grammar.specs.Trees.tgt_mark t).gap (to t) os rest h ∙ ap (λ y. outgoing_words p y) (tgt_words e t rest g)
+
+element_words : (e : Ex) (p : Outgoing) (os : Outputs) (rest : List Terminal) → element_outputs p e ≡ Some os → outputs os rest ≡ outgoing_words p (ex e rest)
+element_words (under (signed m tilde) e) p os rest h = passed (λ q f. element_words e q os rest f) (set_out p m.gap (skip m)) refl h
+  where
+    passed : ((q : Outgoing) → element_outputs q e ≡ Some os → outputs os rest ≡ outgoing_words q (ex e rest)) → (x : Option Outputs) → set_out p m.gap (skip m) ≡ x → pass x (λ q. element_outputs q e) ≡ Some os → outputs os rest ≡ outgoing_words p (term w.Not m ∷ ex e rest)
+    passed ih None g f = cc
+    passed ih (Some xs) g f = ih (behind_outs xs space) f ∙ set_out_words p m.gap (skip m) xs (ex e rest) g
+element_words (under (signed m (additive a)) e) p os rest h = cc
+element_words (under (joined a o m us) e) p os rest h = cc
+element_words (under (from a m) e) p os rest h = cc
+element_words (under (stepped a m b n) e) p os rest h = cc
+element_words (bare c) p os rest h = set_tgt_words p (tgt_of (bare c)) (bare c) os rest refl h
+element_words (call c m a z) p os rest h = set_tgt_words p (tgt_of (call c m a z)) (call c m a z) os rest refl h
+element_words (number m z) p os rest h = cc
+element_words (chars m z) p os rest h = cc
+element_words (state e d m) p os rest h = cc
+element_words (paren m e z) p os rest h = cc
+element_words (rows m rs z) p os rest h = cc
+element_words (rows_to m rs es t z) p os rest h = cc
+element_words (func m n) p os rest h = cc
+element_words (last m) p os rest h = cc
+element_words (transposed e m) p os rest h = cc
+
+item_words : (i : Item) (p : Outgoing) (os : Outputs) (rest : List Terminal) → item_outputs p i ≡ Some os → outputs os rest ≡ outgoing_words p (item i rest)
+item_words (value e) p os rest h = element_words e p os rest h
+item_words (colon m) p os rest h = cc
+
+pub row_outputs_words : (es : Elements) (os : Outputs) (rest : List Terminal) → row_outputs es ≡ Some os → outputs os rest ≡ elements es rest
+row_outputs_words (one i) os rest h = item_words i fresh_outs os rest h
+row_outputs_words (also es c i) os rest h = beyond (λ xs g. row_outputs_words es xs (comma_words c (item i rest)) g) (row_outputs es) refl h
+  where
+    beyond : ((xs : Outputs) → row_outputs es ≡ Some xs → outputs xs (comma_words c (item i rest)) ≡ elements es (comma_words c (item i rest)))
+        → (x : Option Outputs) → row_outputs es ≡ x → behind_all x c (λ p. item_outputs p i) ≡ Some os → outputs os rest ≡ elements es (comma_words c (item i rest))
+    beyond ih None g f = cc
+    beyond ih (Some xs) g f = item_words i (behind_outs xs c) os rest f ∙ ih xs g
+
+pending_words_out : (p : Pending) (q : Outgoing) (rest : List Terminal) → pending_outputs p ≡ Some q → outgoing_words q rest ≡ pending_words p rest
+pending_words_out fresh q rest h = let e : fresh_outs ≡ q = cc in ap (λ x. outgoing_words x rest) (sym e)
+pending_words_out (behind es c) q rest h = by_row (row_outputs es) refl
+  where
+    by_row : (x : Option Outputs) → row_outputs es ≡ x → outgoing_words q rest ≡ elements es (comma_words c rest)
+    by_row None g = let bad : None ≡ Some q = rw g at h in cc
+    by_row (Some os) g = let same : Some (behind_outs os c) ≡ Some q = rw g at h in let e : behind_outs os c ≡ q = cc in ap (λ x. outgoing_words x rest) (sym e) ∙ row_outputs_words es os (comma_words c rest) g
+
+abbrev outlist_words : Outlist → List Terminal → List Terminal
+outlist_words l rest = site_words l.site (block l.block (term w.OpenSquare l.mark ∷ outgoing_words l.outputs rest))
+
+pub as_outputs_words : (S : Stack) (l : Outlist) (rest : List Terminal) → as_outputs S ≡ Some l → outlist_words l rest ≡ stack_words S rest
+as_outputs_words (row_of m no_rows p (goal_of shown site b)) l rest h = by_pending (pending_outputs p) refl h
+  where
+    by_pending : (x : Option Outgoing) → pending_outputs p ≡ x → Steps.outlist m site b x ≡ Some l → outlist_words l rest ≡ site_words site (block b (term w.OpenSquare m ∷ pending_words p rest))
+    by_pending None g f = cc
+    by_pending (Some q) g f = let e : record { mark = m; outputs = q; site = site; block = b } ≡ l = cc in ap (λ x. outlist_words x rest) (sym e) ∙ ap (λ x. site_words site (block b (term w.OpenSquare m ∷ x))) (pending_words_out p q rest g)
+as_outputs_words (op_of (signed m tilde) S) l rest h = by_below (λ x g. as_outputs_words S x (term w.Not m ∷ rest) g) (as_outputs S) refl h
+  where
+    Below : Type 0
+    Below = (x : Outlist) → as_outputs S ≡ Some x → outlist_words x (term w.Not m ∷ rest) ≡ stack_words S (term w.Not m ∷ rest)
+    by_set : Below → (x : Outlist) (y : Option Outputs) → as_outputs S ≡ Some x → set_out x.outputs m.gap (skip m) ≡ y → Steps.skip_in m x y ≡ Some l → outlist_words l rest ≡ stack_words S (term w.Not m ∷ rest)
+    by_set ih x None g s f = cc
+    by_set ih x (Some os) g s f =
+        let e : record { mark = x.mark; outputs = behind_outs os space; site = x.site; block = x.block } ≡ l = cc in
+        ap (λ y. outlist_words y rest) (sym e) ∙ ap (λ y. site_words x.site (block x.block (term w.OpenSquare x.mark ∷ y))) (set_out_words x.outputs m.gap (skip m) os rest s) ∙ ih x g
+    by_below : Below → (x : Option Outlist) → as_outputs S ≡ x → Steps.skip_onto m x ≡ Some l → outlist_words l rest ≡ stack_words S (term w.Not m ∷ rest)
+    by_below ih None g f = cc
+    by_below ih (Some x) g f = by_set ih x (set_out x.outputs m.gap (skip m)) g refl f
+as_outputs_words (row_of m (broken rs s) p S) l rest h = cc
+as_outputs_words (row_of m (filled rs es t s) p S) l rest h = cc
+as_outputs_words (row_of m no_rows p (goal_of (into t q) site b)) l rest h = cc
+as_outputs_words (row_of m no_rows p (goal_of (spread n os z q) site b)) l rest h = cc
+as_outputs_words (row_of m no_rows p (lead_of i spot)) l rest h = cc
+as_outputs_words (row_of m no_rows p (inner_of i spot)) l rest h = cc
+as_outputs_words (row_of m no_rows p (outputs_of n o site b)) l rest h = cc
+as_outputs_words (row_of m no_rows p (op_of o S)) l rest h = cc
+as_outputs_words (row_of m no_rows p (paren_of n S)) l rest h = cc
+as_outputs_words (row_of m no_rows p (args_of c n o S)) l rest h = cc
+as_outputs_words (row_of m no_rows p (brace_of n o S)) l rest h = cc
+as_outputs_words (row_of m no_rows p (row_of n rs o S)) l rest h = cc
+as_outputs_words (op_of (signed m (additive a)) S) l rest h = cc
+as_outputs_words (op_of (joined a o m us) S) l rest h = cc
+as_outputs_words (op_of (from a m) S) l rest h = cc
+as_outputs_words (op_of (stepped a m b n) S) l rest h = cc
+as_outputs_words (goal_of g site b) l rest h = cc
+as_outputs_words (lead_of i spot) l rest h = cc
+as_outputs_words (inner_of i spot) l rest h = cc
+as_outputs_words (outputs_of n o site b) l rest h = cc
+as_outputs_words (paren_of n S) l rest h = cc
+as_outputs_words (args_of c n o S) l rest h = cc
+as_outputs_words (brace_of n o S) l rest h = cc
