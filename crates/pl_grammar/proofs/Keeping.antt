@@ -11,12 +11,13 @@ use Rattle.pl_grammar.specs.declared.terminal.Word.{Word}
 use Rattle.pl_grammar.specs.declared.terminal.Word.TheVariants as w
 use Rattle.pl_grammar.specs.declared.terminal.Keyword.{Keyword}
 use Rattle.pl_grammar.specs.declared.terminal.Keyword.TheVariants as k
-use Rattle.pl_grammar.specs.Words.{Mark, term, mark_of, Named, named, Additive, bin_of, Sign, additive, tilde, sign_word, additive_of, is_power, SepKind, comma, semicolon, line, Sep, sep_word, Use, tests, loops, direct, plain, leaves, ends, defines, unused, use_of, is_link, follows, Dots, whole, stem, neither, dots, is_state}
+use Rattle.pl_grammar.specs.Words.{Mark, term, mark_of, Named, named, Additive, bin_of, Sign, additive, tilde, sign_word, additive_of, level, is_power, SepKind, comma, semicolon, line, Sep, sep_word, Use, tests, loops, direct, plain, leaves, ends, defines, unused, use_of, is_link, follows, Dots, whole, stem, neither, dots, is_state}
 use Rattle.pl_grammar.specs.Derivations.{Head, alone, dotted, Signs, no_signs, more_signs, Comma, written, space, Trail, no_trail, trail, Ex, number, chars, bare, call, state, paren, rows, rows_to, func, last, under, transposed, Op, joined, signed, from, stepped, Callee, head, braced, Args, no_args, listed, Elements, one, also, Item, value, colon, Rows, no_rows, broken, filled, Tgt, entire, indexed, in_braces, Output, to, skip, Outputs, only, beside, Goal, shown, into, spread, Lead, test, each, Inner, each_in, bound, workers, Heading, upto, shut, no_value, Part, headed, unheaded, Smt, simple, delete, leave, compound, Block, empty, blank, statement, Opened, Param, taken, ignored, Params, Listing, no_params, params, Outs, no_outs, single, several, Given, no_list, given, Title, title, fun, Top, script, define, spaced, Prog, whole_of, unended}
 use Rattle.pl_grammar.specs.Spelling.{sep, signs, comma_words, trail_words, ex, op, callee, args, elements, item, row_words, tgt, output_words, outputs, goal, lead, inner, heading, part, smt, block, opened, param, param_words, listing, outs_words, given_words, title_words, top, prog}
+use Rattle.pl_grammar.specs.Nesting.{height}
 use Rattle.pl_grammar.specs.Sound.{has_state, strength}
 use Rattle.pl_grammar.specs.Programs.{Rules}
-use Rattle.pl_grammar.specs.Machine.{Pending, fresh, behind, Outgoing, fresh_outs, behind_outs, Waiting, fresh_params, behind_params, put, put_out, put_param, Site, main, body, within, Spot, here, linked, Stack, goal_of, lead_of, inner_of, outputs_of, op_of, paren_of, args_of, brace_of, row_of, Titling, begun_title, worded, outs_of, out_of, outs_shut, naming, entitled, params_of, param_of, titled, State, start, finished, operand, after, coloned, torn, at_sign, stemmed, dot, output, output_read, outputs_shut, loop, loop_in, index, index_in, ready, titling, between, pending_words, outgoing_words, waiting_words, site_words, spot_words, stack_words, told, enter, in_row, beginning}
+use Rattle.pl_grammar.specs.Machine.{Pending, fresh, behind, Outgoing, fresh_outs, behind_outs, Waiting, fresh_params, behind_params, put, put_out, put_param, Site, main, body, within, Spot, here, linked, Stack, goal_of, lead_of, inner_of, outputs_of, op_of, paren_of, args_of, brace_of, row_of, Titling, begun_title, worded, outs_of, out_of, outs_shut, naming, entitled, params_of, param_of, titled, State, start, finished, operand, after, coloned, torn, at_sign, stemmed, dot, output, output_read, outputs_shut, loop, loop_in, index, index_in, ready, titling, between, pending_words, outgoing_words, waiting_words, site_words, spot_words, stack_words, told, enter, nests, in_row, in_index, beginning}
 use Rattle.pl_grammar.specs.Steps
 use Rattle.pl_grammar.specs.Steps.{Step, Held, roomy, room, refused, reduce, run, step, onward, Answer, callee_tgt, tgt_of, set_out, set_tgt, pass, element_outputs, item_outputs, behind_all, row_outputs, pending_outputs, Outlist, as_outputs, called, embraced, read_operand, go_on, read_after, settle, ended}
 use Rattle.pl_grammar.proofs.Reading.{pick}
@@ -169,3 +170,214 @@ as_outputs_words (outputs_of n o site b) l rest h = cc
 as_outputs_words (paren_of n S) l rest h = cc
 as_outputs_words (args_of c n o S) l rest h = cc
 as_outputs_words (brace_of n o S) l rest h = cc
+
+-- ---- an operand has to come
+
+called_tells : (c : Callee) (m : Mark) (a : Args) (z : Mark) (S : Stack) (rest : List Terminal) → Tells (called c m a z S) rest (stack_words S (callee c (term w.Open m ∷ args a (term w.Close z ∷ rest))))
+called_tells (head (alone n)) m a z (outputs_of o p site b) rest = ap (λ x. site_words site (block b (term w.OpenSquare o ∷ x))) (put_out_words p (to (indexed n m a z)) rest)
+called_tells (head (alone n)) m a z (goal_of g site b) rest = refl
+called_tells (head (alone n)) m a z (lead_of l spot) rest = refl
+called_tells (head (alone n)) m a z (inner_of i spot) rest = refl
+called_tells (head (alone n)) m a z (op_of p S) rest = refl
+called_tells (head (alone n)) m a z (paren_of o S) rest = refl
+called_tells (head (alone n)) m a z (args_of c o p S) rest = refl
+called_tells (head (alone n)) m a z (brace_of o p S) rest = refl
+called_tells (head (alone n)) m a z (row_of o rs p S) rest = refl
+called_tells (head (dotted h d n)) m a z S rest = refl
+called_tells (braced n i e y) m a z S rest = refl
+
+embraced_tells : (n : Named) (m : Mark) (e : Ex) (z : Mark) (S : Stack) (rest : List Terminal) → Tells (embraced n m e z S) rest (stack_words S (named n ∷ term w.OpenBrace m ∷ ex e (term w.CloseBrace z ∷ rest)))
+embraced_tells n m e z (outputs_of o p site b) rest = ap (λ x. site_words site (block b (term w.OpenSquare o ∷ x))) (put_out_words p (to (in_braces n m e z)) rest)
+embraced_tells n m e z (goal_of g site b) rest = refl
+embraced_tells n m e z (lead_of l spot) rest = refl
+embraced_tells n m e z (inner_of i spot) rest = refl
+embraced_tells n m e z (op_of p S) rest = refl
+embraced_tells n m e z (paren_of o S) rest = refl
+embraced_tells n m e z (args_of c o p S) rest = refl
+embraced_tells n m e z (brace_of o p S) rest = refl
+embraced_tells n m e z (row_of o rs p S) rest = refl
+
+module _ (r : Rules) where
+  raise_tells : (s : Sign) (m : Mark) (S : Stack) (rest : List Terminal) → Tells (Steps.raise r s m S) rest (stack_words S (term (sign_word s) m ∷ rest))
+  raise_tells s m S rest = roomy_tells (room r (suc (nests S))) (Ok (operand (op_of (signed m s) S))) rest (stack_words S (term (sign_word s) m ∷ rest)) refl
+
+  sign_tells : (s : Sign) (m : Mark) (S : Stack) (rest : List Terminal) → Tells (Steps.sign r s m S) rest (stack_words S (term (sign_word s) m ∷ rest))
+  sign_tells s m (op_of (joined a o n us) S) rest = choose (is_power o) (roomy (room r (suc (nests (op_of (joined a o n us) S)))) (Ok (operand (op_of (joined a o n (more_signs us m s)) S)))) (Steps.raise r s m (op_of (joined a o n us) S)) rest (stack_words (op_of (joined a o n us) S) (term (sign_word s) m ∷ rest)) (roomy_tells (room r (suc (nests (op_of (joined a o n us) S)))) (Ok (operand (op_of (joined a o n (more_signs us m s)) S))) rest (stack_words (op_of (joined a o n us) S) (term (sign_word s) m ∷ rest)) refl) (raise_tells s m (op_of (joined a o n us) S) rest)
+  sign_tells s m (op_of (signed n t) S) rest = raise_tells s m (op_of (signed n t) S) rest
+  sign_tells s m (op_of (from a n) S) rest = raise_tells s m (op_of (from a n) S) rest
+  sign_tells s m (op_of (stepped a n b o) S) rest = raise_tells s m (op_of (stepped a n b o) S) rest
+  sign_tells s m (goal_of g site b) rest = raise_tells s m (goal_of g site b) rest
+  sign_tells s m (lead_of l spot) rest = raise_tells s m (lead_of l spot) rest
+  sign_tells s m (inner_of i spot) rest = raise_tells s m (inner_of i spot) rest
+  sign_tells s m (outputs_of o q site b) rest = raise_tells s m (outputs_of o q site b) rest
+  sign_tells s m (paren_of o S) rest = raise_tells s m (paren_of o S) rest
+  sign_tells s m (args_of c o q S) rest = raise_tells s m (args_of c o q S) rest
+  sign_tells s m (brace_of o q S) rest = raise_tells s m (brace_of o q S) rest
+  sign_tells s m (row_of o rs q S) rest = raise_tells s m (row_of o rs q S) rest
+
+  bin_additive : (o : Bin) (d : Additive) → additive_of o ≡ Some d → bin_of d ≡ o
+  bin_additive o d h = Rattle.pl_grammar.proofs.Reading.bin_additive r o d h
+
+  sign_of_tells : (o : Bin) (ad : Option Additive) (m : Mark) (S : Stack) (rest : List Terminal) → additive_of o ≡ ad → Tells (Steps.sign_of r ad m S) rest (stack_words S (term (w.Binary o) m ∷ rest))
+  sign_of_tells o None m S rest h = tt
+  sign_of_tells o (Some a) m S rest h = retell (Steps.sign r (additive a) m S) rest (stack_words S (term (w.Binary (bin_of a)) m ∷ rest)) (stack_words S (term (w.Binary o) m ∷ rest)) (ap (λ x. stack_words S (term (w.Binary x) m ∷ rest)) (bin_additive o a h)) (sign_tells (additive a) m S rest)
+
+  -- outputs that frames stand for
+  then_tells : (S : Stack) (x : Option Outlist) (go : Mark → Outputs → Site → Block → State) (rest ts : List Terminal) → as_outputs S ≡ x
+      → ((l : Outlist) (os : Outputs) (c : Comma) → l.outputs ≡ behind_outs os c → as_outputs S ≡ Some l → told (go l.mark os l.site l.block) rest ≡ ts) → Tells (Steps.outputs_then x go) rest ts
+  then_tells S None go rest ts h f = tt
+  then_tells S (Some l) go rest ts h f = by_outs l.outputs refl
+    where
+      by_outs : (o : Outgoing) → l.outputs ≡ o → Tells (Steps.outputs_then (Some (record { mark = l.mark; outputs = o; site = l.site; block = l.block })) go) rest ts
+      by_outs fresh_outs g = tt
+      by_outs (behind_outs os c) g = f l os c g h
+
+  skip_space : (p : Op) (S : Stack) (l : Outlist) (os : Outputs) (c : Comma) → as_outputs (op_of p S) ≡ Some l → l.outputs ≡ behind_outs os c → c ≡ space
+  skip_space (signed m tilde) S l os c h e = by_below (as_outputs S) h
+    where
+      by_set : (x : Outlist) (y : Option Outputs) → Steps.skip_in m x y ≡ Some l → c ≡ space
+      by_set x None f = cc
+      by_set x (Some ys) f =
+          let g : record { mark = x.mark; outputs = behind_outs ys space; site = x.site; block = x.block } ≡ l = cc in
+          let i : behind_outs ys space ≡ l.outputs = ap (λ z. z.outputs) g in
+          let j : behind_outs ys space ≡ behind_outs os c = i ∙ e in cc
+      by_below : (x : Option Outlist) → Steps.skip_onto m x ≡ Some l → c ≡ space
+      by_below None f = cc
+      by_below (Some x) f = by_set x (set_out x.outputs m.gap (skip m)) f
+  skip_space (signed m (additive a)) S l os c h e = cc
+  skip_space (joined a o m us) S l os c h e = cc
+  skip_space (from a m) S l os c h e = cc
+  skip_space (stepped a m b n) S l os c h e = cc
+
+  -- the terminals behind the `~` on top
+  skipped_words : (p : Op) (S : Stack) (l : Outlist) (os : Outputs) (c : Comma) (rest : List Terminal) → l.outputs ≡ behind_outs os c → as_outputs (op_of p S) ≡ Some l
+      → site_words l.site (block l.block (term w.OpenSquare l.mark ∷ outputs os rest)) ≡ stack_words (op_of p S) rest
+  skipped_words p S l os c rest e h =
+      let f : l.outputs ≡ behind_outs os space = e ∙ ap (λ x. behind_outs os x) (skip_space p S l os c h e) in
+      ap (λ x. site_words l.site (block l.block (term w.OpenSquare l.mark ∷ outgoing_words x rest))) (sym f) ∙ as_outputs_words (op_of p S) l rest h
+
+  comma_empty_tells : (c : Mark) (S : Stack) (rest : List Terminal) → Tells (Steps.comma_empty c S) rest (stack_words S (term w.Comma c ∷ rest))
+  comma_empty_tells c (op_of p S) rest = then_tells (op_of p S) (as_outputs (op_of p S)) (λ m os site b. output m (behind_outs os (written c)) site b) rest (stack_words (op_of p S) (term w.Comma c ∷ rest)) refl (λ l os x e h. skipped_words p S l os x (term w.Comma c ∷ rest) e h)
+  comma_empty_tells c (goal_of g site b) rest = tt
+  comma_empty_tells c (lead_of l spot) rest = tt
+  comma_empty_tells c (inner_of i spot) rest = tt
+  comma_empty_tells c (outputs_of o q site b) rest = tt
+  comma_empty_tells c (paren_of o S) rest = tt
+  comma_empty_tells c (args_of f o q S) rest = tt
+  comma_empty_tells c (brace_of o q S) rest = tt
+  comma_empty_tells c (row_of o rs q S) rest = tt
+
+  square_row_tells : (m : Mark) (rs : Rows) (p : Pending) (S : Stack) (z : Mark) (rest : List Terminal) → Tells (Steps.square_row m rs p S z) rest (stack_words (row_of m rs p S) (term w.CloseSquare z ∷ rest))
+  square_row_tells m rs fresh S z rest = refl
+  square_row_tells m rs (behind es (written c)) S z rest = refl
+  square_row_tells m rs (behind es space) S z rest = tt
+
+  square_empty_tells : (z : Mark) (S : Stack) (rest : List Terminal) → Tells (Steps.square_empty z S) rest (stack_words S (term w.CloseSquare z ∷ rest))
+  square_empty_tells z (row_of m rs p S) rest = square_row_tells m rs p S z rest
+  square_empty_tells z (op_of p S) rest = then_tells (op_of p S) (as_outputs (op_of p S)) (λ m os site b. outputs_shut m os z site b) rest (stack_words (op_of p S) (term w.CloseSquare z ∷ rest)) refl (λ l os x e h. skipped_words p S l os x (term w.CloseSquare z ∷ rest) e h)
+  square_empty_tells z (goal_of g site b) rest = tt
+  square_empty_tells z (lead_of l spot) rest = tt
+  square_empty_tells z (inner_of i spot) rest = tt
+  square_empty_tells z (outputs_of o q site b) rest = tt
+  square_empty_tells z (paren_of o S) rest = tt
+  square_empty_tells z (args_of f o q S) rest = tt
+  square_empty_tells z (brace_of o q S) rest = tt
+
+  close_empty_tells : (z : Mark) (S : Stack) (rest : List Terminal) → Tells (Steps.close_empty z S) rest (stack_words S (term w.Close z ∷ rest))
+  close_empty_tells z (args_of c m fresh S) rest = called_tells c m no_args z S rest
+  close_empty_tells z (args_of c m (behind es x) S) rest = tt
+  close_empty_tells z (goal_of g site b) rest = tt
+  close_empty_tells z (lead_of l spot) rest = tt
+  close_empty_tells z (inner_of i spot) rest = tt
+  close_empty_tells z (outputs_of o q site b) rest = tt
+  close_empty_tells z (op_of p S) rest = tt
+  close_empty_tells z (paren_of o S) rest = tt
+  close_empty_tells z (brace_of o q S) rest = tt
+  close_empty_tells z (row_of o rs q S) rest = tt
+
+  break_row_tells : (m : Mark) (rs : Rows) (p : Pending) (S : Stack) (s : Sep) (rest : List Terminal) → Tells (Steps.break_row m rs p S s) rest (stack_words (row_of m rs p S) (sep s rest))
+  break_row_tells m rs fresh S s rest = refl
+  break_row_tells m rs (behind es (written c)) S s rest = refl
+  break_row_tells m rs (behind es space) S s rest = tt
+
+  break_empty_tells : (s : Sep) (S : Stack) (rest : List Terminal) → Tells (Steps.break_empty s S) rest (stack_words S (sep s rest))
+  break_empty_tells s (row_of m rs p S) rest = break_row_tells m rs p S s rest
+  break_empty_tells s (goal_of g site b) rest = tt
+  break_empty_tells s (lead_of l spot) rest = tt
+  break_empty_tells s (inner_of i spot) rest = tt
+  break_empty_tells s (outputs_of o q site b) rest = tt
+  break_empty_tells s (op_of p S) rest = tt
+  break_empty_tells s (paren_of o S) rest = tt
+  break_empty_tells s (args_of f o q S) rest = tt
+  break_empty_tells s (brace_of o q S) rest = tt
+
+  colon_arg_tells : (m : Mark) (S : Stack) (rest : List Terminal) → Tells (Steps.colon_arg m S) rest (stack_words S (term w.Colon m ∷ rest))
+  colon_arg_tells m (args_of f o q S) rest = refl
+  colon_arg_tells m (goal_of g site b) rest = tt
+  colon_arg_tells m (lead_of l spot) rest = tt
+  colon_arg_tells m (inner_of i spot) rest = tt
+  colon_arg_tells m (outputs_of o q site b) rest = tt
+  colon_arg_tells m (op_of p S) rest = tt
+  colon_arg_tells m (paren_of o S) rest = tt
+  colon_arg_tells m (brace_of o q S) rest = tt
+  colon_arg_tells m (row_of o rs q S) rest = tt
+
+  last_tells : (word : Keyword) (m : Mark) (S : Stack) (rest : List Terminal) (v : Bool) → Steps.end_word word ≡ v → Tells (if v && in_index S then Ok (after (last m) S) else refused) rest (stack_words S (term (w.Key word) m ∷ rest))
+  last_tells k.End m S rest v h = choose (v && in_index S) (Ok (after (last m) S)) refused rest (stack_words S (term (w.Key k.End) m ∷ rest)) refl tt
+  last_tells word m S rest true h = cc
+  last_tells word m S rest false h = tt
+
+  operand_tells : (word : Word) (m : Mark) (S : Stack) (rest : List Terminal) → Tells (read_operand r word m S) rest (stack_words S (term word m ∷ rest))
+  operand_tells (w.Name n) m S rest = refl
+  operand_tells (w.Chars cs) m S rest = refl
+  operand_tells (w.Number z) m S rest = refl
+  operand_tells (w.Binary o) m S rest = sign_of_tells o (additive_of o) m S rest refl
+  operand_tells w.Not m S rest = sign_tells tilde m S rest
+  operand_tells w.Quote m S rest = tt
+  operand_tells w.Equal m S rest = tt
+  operand_tells w.Colon m S rest = colon_arg_tells m S rest
+  operand_tells w.Comma m S rest = comma_empty_tells m S rest
+  operand_tells w.Semicolon m S rest = break_empty_tells (record { kind = semicolon; mark = m }) S rest
+  operand_tells w.LineEnd m S rest = break_empty_tells (record { kind = line; mark = m }) S rest
+  operand_tells w.Open m S rest = roomy_tells (room r (suc (nests S))) (Ok (operand (paren_of m S))) rest (stack_words S (term w.Open m ∷ rest)) refl
+  operand_tells w.Close m S rest = close_empty_tells m S rest
+  operand_tells w.OpenSquare m S rest = roomy_tells (room r (suc (nests S))) (Ok (operand (row_of m no_rows fresh S))) rest (stack_words S (term w.OpenSquare m ∷ rest)) refl
+  operand_tells w.CloseSquare m S rest = square_empty_tells m S rest
+  operand_tells w.OpenBrace m S rest = tt
+  operand_tells w.CloseBrace m S rest = tt
+  operand_tells w.At m S rest = refl
+  operand_tells w.Dot m S rest = tt
+  operand_tells (w.Key word) m S rest = last_tells word m S rest (Steps.end_word word) refl
+
+  -- ---- an operand has come
+
+  join_tells : (e : Ex) (S : Stack) (o : Bin) (m : Mark) (rest : List Terminal) → Tells (Steps.join r e S o m) rest (stack_words S (ex e (term (w.Binary o) m ∷ rest)))
+  join_tells e S o m rest = roomy_tells (room r (suc (height e + nests S))) (Ok (operand (op_of (joined e o m no_signs) S))) rest (stack_words S (ex e (term (w.Binary o) m ∷ rest))) refl
+
+  reduced_join : (l : ℕ) (e : Ex) (S : Stack) (o : Bin) (m : Mark) (rest : List Terminal) → Tells (Steps.join r (reduce l e S).operand (reduce l e S).stack o m) rest (stack_words S (ex e (term (w.Binary o) m ∷ rest)))
+  reduced_join l e S o m rest = retell (Steps.join r (reduce l e S).operand (reduce l e S).stack o m) rest (stack_words (reduce l e S).stack (ex (reduce l e S).operand (term (w.Binary o) m ∷ rest))) (stack_words S (ex e (term (w.Binary o) m ∷ rest))) (reduce_tells l e S (term (w.Binary o) m ∷ rest)) (join_tells (reduce l e S).operand (reduce l e S).stack o m rest)
+
+  operator_tells : (o : Bin) (ad : Option Additive) (m : Mark) (e : Ex) (S : Stack) (rest : List Terminal) → additive_of o ≡ ad → Tells (Steps.operator r o ad m e S) rest (stack_words S (ex e (term (w.Binary o) m ∷ rest)))
+  operator_tells o None m e S rest h = reduced_join (level o) e S o m rest
+  operator_tells o (Some a) m e S rest h =
+      let ts : List Terminal = stack_words S (ex e (term (w.Binary o) m ∷ rest)) in
+      choose (in_row S && m.gap) (Steps.tear r e a m S (reduce 0 e S).stack) (Steps.join r (reduce (level o) e S).operand (reduce (level o) e S).stack o m) rest ts
+        (roomy_tells (room r (suc (nests (reduce 0 e S).stack))) (Ok (torn e a m S)) rest ts (ap (λ x. stack_words S (ex e (term (w.Binary x) m ∷ rest))) (bin_additive o a h)))
+        (reduced_join (level o) e S o m rest)
+
+  transpose_tells : (m : Mark) (e : Ex) (S : Stack) (rest : List Terminal) → Tells (Steps.transpose r m e S) rest (stack_words S (ex e (term w.Quote m ∷ rest)))
+  transpose_tells m e S rest = roomy_tells (room r (suc (height e + nests S))) (Ok (after (transposed e m) S)) rest (stack_words S (ex e (term w.Quote m ∷ rest))) refl
+
+  range_tells : (m : Mark) (e : Ex) (S : Stack) (rest : List Terminal) → Tells (Steps.range r m e S) rest (stack_words S (ex e (term w.Colon m ∷ rest)))
+  range_tells m e (op_of (from a n) S) rest = refl
+  range_tells m e (op_of (stepped a n b o) S) rest = tt
+  range_tells m e (op_of (joined a o n us) S) rest = roomy_tells (room r (suc (height e + nests (op_of (joined a o n us) S)))) (Ok (operand (op_of (from e m) (op_of (joined a o n us) S)))) rest (stack_words (op_of (joined a o n us) S) (ex e (term w.Colon m ∷ rest))) refl
+  range_tells m e (op_of (signed n t) S) rest = roomy_tells (room r (suc (height e + nests (op_of (signed n t) S)))) (Ok (operand (op_of (from e m) (op_of (signed n t) S)))) rest (stack_words (op_of (signed n t) S) (ex e (term w.Colon m ∷ rest))) refl
+  range_tells m e (goal_of g site b) rest = roomy_tells (room r (suc (height e + nests (goal_of g site b)))) (Ok (operand (op_of (from e m) (goal_of g site b)))) rest (stack_words (goal_of g site b) (ex e (term w.Colon m ∷ rest))) refl
+  range_tells m e (lead_of l spot) rest = roomy_tells (room r (suc (height e + nests (lead_of l spot)))) (Ok (operand (op_of (from e m) (lead_of l spot)))) rest (stack_words (lead_of l spot) (ex e (term w.Colon m ∷ rest))) refl
+  range_tells m e (inner_of i spot) rest = roomy_tells (room r (suc (height e + nests (inner_of i spot)))) (Ok (operand (op_of (from e m) (inner_of i spot)))) rest (stack_words (inner_of i spot) (ex e (term w.Colon m ∷ rest))) refl
+  range_tells m e (outputs_of o q site b) rest = roomy_tells (room r (suc (height e + nests (outputs_of o q site b)))) (Ok (operand (op_of (from e m) (outputs_of o q site b)))) rest (stack_words (outputs_of o q site b) (ex e (term w.Colon m ∷ rest))) refl
+  range_tells m e (paren_of o S) rest = roomy_tells (room r (suc (height e + nests (paren_of o S)))) (Ok (operand (op_of (from e m) (paren_of o S)))) rest (stack_words (paren_of o S) (ex e (term w.Colon m ∷ rest))) refl
+  range_tells m e (args_of f o q S) rest = roomy_tells (room r (suc (height e + nests (args_of f o q S)))) (Ok (operand (op_of (from e m) (args_of f o q S)))) rest (stack_words (args_of f o q S) (ex e (term w.Colon m ∷ rest))) refl
+  range_tells m e (brace_of o q S) rest = roomy_tells (room r (suc (height e + nests (brace_of o q S)))) (Ok (operand (op_of (from e m) (brace_of o q S)))) rest (stack_words (brace_of o q S) (ex e (term w.Colon m ∷ rest))) refl
+  range_tells m e (row_of o rs q S) rest = roomy_tells (room r (suc (height e + nests (row_of o rs q S)))) (Ok (operand (op_of (from e m) (row_of o rs q S)))) rest (stack_words (row_of o rs q S) (ex e (term w.Colon m ∷ rest))) refl

@@ -195,7 +195,7 @@ module _ (r : Rules) where
       settled : (s : Step) → onward (roomy true s) (λ next. run r next ts) (suc (length ts)) ≡ onward s (λ next. run r next ts) (suc (length ts))
       settled s = refl
 
-  bin_additive : (o : Bin) (d : Additive) → additive_of o ≡ Some d → bin_of d ≡ o
+  pub bin_additive : (o : Bin) (d : Additive) → additive_of o ≡ Some d → bin_of d ≡ o
   bin_additive bin.Add plus h = refl
   bin_additive bin.Add minus h = cc
   bin_additive bin.Sub plus h = cc
