@@ -381,3 +381,188 @@ module _ (r : Rules) where
   range_tells m e (args_of f o q S) rest = roomy_tells (room r (suc (height e + nests (args_of f o q S)))) (Ok (operand (op_of (from e m) (args_of f o q S)))) rest (stack_words (args_of f o q S) (ex e (term w.Colon m ∷ rest))) refl
   range_tells m e (brace_of o q S) rest = roomy_tells (room r (suc (height e + nests (brace_of o q S)))) (Ok (operand (op_of (from e m) (brace_of o q S)))) rest (stack_words (brace_of o q S) (ex e (term w.Colon m ∷ rest))) refl
   range_tells m e (row_of o rs q S) rest = roomy_tells (room r (suc (height e + nests (row_of o rs q S)))) (Ok (operand (op_of (from e m) (row_of o rs q S)))) rest (stack_words (row_of o rs q S) (ex e (term w.Colon m ∷ rest))) refl
+
+  spread_tells : (m z q : Mark) (es : Elements) (x : Option Outputs) (site : Site) (b : Block) (rest : List Terminal) → row_outputs es ≡ x
+      → Tells (Steps.spread_to m z q x site b) rest (site_words site (block b (term w.OpenSquare m ∷ elements es (term w.CloseSquare z ∷ term w.Equal q ∷ rest))))
+  spread_tells m z q es None site b rest h = tt
+  spread_tells m z q es (Some os) site b rest h = ap (λ x. site_words site (block b (term w.OpenSquare m ∷ x))) (row_outputs_words es os (term w.CloseSquare z ∷ term w.Equal q ∷ rest) h)
+
+  assign_to_tells : (q : Mark) (x : Option Tgt) (e : Ex) (site : Site) (b : Block) (rest : List Terminal) → tgt_of e ≡ x → Tells (Steps.assign_to q x e site b) rest (site_words site (block b (ex e (term w.Equal q ∷ rest))))
+  assign_to_tells q (Some t) e site b rest h = ap (λ x. site_words site (block b x)) (tgt_words e t (term w.Equal q ∷ rest) h)
+  assign_to_tells q None (rows_to m no_rows es no_trail z) site b rest h = spread_tells m z q es (row_outputs es) site b rest refl
+  assign_to_tells q None (rows_to m no_rows es (trail c) z) site b rest h = tt
+  assign_to_tells q None (rows_to m (broken rs s) es t z) site b rest h = tt
+  assign_to_tells q None (rows_to m (filled rs x u s) es t z) site b rest h = tt
+  assign_to_tells q None (number m z) site b rest h = tt
+  assign_to_tells q None e site b rest h = tt
+
+  assign_tells : (q : Mark) (e : Ex) (S : Stack) (rest : List Terminal) → Tells (Steps.assign q e S) rest (stack_words S (ex e (term w.Equal q ∷ rest)))
+  assign_tells q e (goal_of shown site b) rest = assign_to_tells q (tgt_of e) e site b rest refl
+  assign_tells q e (goal_of (into t z) site b) rest = tt
+  assign_tells q e (goal_of (spread m os z y) site b) rest = tt
+  assign_tells q e (lead_of l spot) rest = tt
+  assign_tells q e (inner_of i spot) rest = tt
+  assign_tells q e (outputs_of o y site b) rest = tt
+  assign_tells q e (op_of p S) rest = tt
+  assign_tells q e (paren_of o S) rest = tt
+  assign_tells q e (args_of f o y S) rest = tt
+  assign_tells q e (brace_of o y S) rest = tt
+  assign_tells q e (row_of o rs y S) rest = tt
+
+  settle_words : (g : Goal) (e : Ex) (rest : List Terminal) → smt (settle g e) rest ≡ goal g (ex e rest)
+  settle_words shown e rest = refl
+  settle_words (spread m os z q) e rest = refl
+  settle_words (into (entire n) q) e rest = refl
+  settle_words (into (in_braces n m x z) q) e rest = refl
+  settle_words (into (indexed n m a z) q) (rows o no_rows y) rest = refl
+  settle_words (into (indexed n m a z) q) e rest = refl
+
+  enter_words : (p : Part) (spot : Spot) (rest : List Terminal) → site_words (enter p spot) rest ≡ spot_words spot (part p rest)
+  enter_words p (here site b) rest = refl
+  enter_words p (linked o b site before) rest = refl
+
+  end_simple_tells : (s : Sep) (e : Ex) (S : Stack) (rest : List Terminal) → Tells (Steps.end_simple s e S) rest (stack_words S (ex e (sep s rest)))
+  end_simple_tells s e (goal_of g site b) rest = ap (λ x. site_words site (block b x)) (settle_words g e (sep s rest))
+  end_simple_tells s e (lead_of l spot) rest = enter_words (headed (upto l e) s) spot rest
+  end_simple_tells s e (inner_of i spot) rest = tt
+  end_simple_tells s e (outputs_of o q site b) rest = tt
+  end_simple_tells s e (op_of p S) rest = tt
+  end_simple_tells s e (paren_of o S) rest = tt
+  end_simple_tells s e (args_of f o q S) rest = tt
+  end_simple_tells s e (brace_of o q S) rest = tt
+  end_simple_tells s e (row_of o rs q S) rest = tt
+
+  end_row_tells : (s : Sep) (e : Ex) (S : Stack) (rest : List Terminal) → Tells (Steps.end_row s e S) rest (stack_words S (ex e (sep s rest)))
+  end_row_tells s e (row_of m rs p S) rest = ap (λ x. stack_words S (term w.OpenSquare m ∷ row_words rs x)) (put_words p (value e) (sep s rest))
+  end_row_tells s e (goal_of g site b) rest = end_simple_tells s e (goal_of g site b) rest
+  end_row_tells s e (lead_of l spot) rest = end_simple_tells s e (lead_of l spot) rest
+  end_row_tells s e (inner_of i spot) rest = end_simple_tells s e (inner_of i spot) rest
+  end_row_tells s e (outputs_of o q site b) rest = end_simple_tells s e (outputs_of o q site b) rest
+  end_row_tells s e (op_of p S) rest = end_simple_tells s e (op_of p S) rest
+  end_row_tells s e (paren_of o S) rest = end_simple_tells s e (paren_of o S) rest
+  end_row_tells s e (args_of f o q S) rest = end_simple_tells s e (args_of f o q S) rest
+  end_row_tells s e (brace_of o q S) rest = end_simple_tells s e (brace_of o q S) rest
+
+  bound_tells : (v : Bool) (word : Keyword) (m o : Mark) (n : Named) (q : Mark) (e : Ex) (c : Mark) (spot : Spot) (rest : List Terminal) → Steps.is_parfor word ≡ v
+      → Tells (Steps.bound_of v m o n q e c spot) rest (spot_words spot (term (w.Key word) m ∷ term w.Open o ∷ named n ∷ term w.Equal q ∷ ex e (term w.Comma c ∷ rest)))
+  bound_tells false word m o n q e c spot rest h = tt
+  bound_tells true k.Parfor m o n q e c spot rest h = refl
+  bound_tells true word m o n q e c spot rest h = cc
+
+  end_comma_tells : (c : Mark) (e : Ex) (S : Stack) (rest : List Terminal) → Tells (Steps.end_comma c e S) rest (stack_words S (ex e (term w.Comma c ∷ rest)))
+  end_comma_tells c e (args_of f m p S) rest = ap (λ x. stack_words S (callee f (term w.Open m ∷ x))) (put_words p (value e) (term w.Comma c ∷ rest))
+  end_comma_tells c e (row_of m rs p S) rest = ap (λ x. stack_words S (term w.OpenSquare m ∷ row_words rs x)) (put_words p (value e) (term w.Comma c ∷ rest))
+  end_comma_tells c e (inner_of (each_in word m o n q) spot) rest = bound_tells (Steps.is_parfor word) word m o n q e c spot rest refl
+  end_comma_tells c e (inner_of (bound m o n q x d) spot) rest = tt
+  end_comma_tells c e (inner_of (workers m o) spot) rest = tt
+  end_comma_tells c e (goal_of g site b) rest = end_simple_tells (record { kind = comma; mark = c }) e (goal_of g site b) rest
+  end_comma_tells c e (lead_of l spot) rest = end_simple_tells (record { kind = comma; mark = c }) e (lead_of l spot) rest
+  end_comma_tells c e (outputs_of o q site b) rest = end_simple_tells (record { kind = comma; mark = c }) e (outputs_of o q site b) rest
+  end_comma_tells c e (op_of p S) rest = end_simple_tells (record { kind = comma; mark = c }) e (op_of p S) rest
+  end_comma_tells c e (paren_of o S) rest = end_simple_tells (record { kind = comma; mark = c }) e (paren_of o S) rest
+  end_comma_tells c e (brace_of o q S) rest = end_simple_tells (record { kind = comma; mark = c }) e (brace_of o q S) rest
+
+  close_tells : (z : Mark) (e : Ex) (S : Stack) (rest : List Terminal) → Tells (Steps.close z e S) rest (stack_words S (ex e (term w.Close z ∷ rest)))
+  close_tells z e (paren_of m S) rest = refl
+  close_tells z e (args_of c m p S) rest = retell (called c m (listed (put p (value e))) z S) rest (stack_words S (callee c (term w.Open m ∷ elements (put p (value e)) (term w.Close z ∷ rest)))) (stack_words S (callee c (term w.Open m ∷ pending_words p (ex e (term w.Close z ∷ rest))))) (ap (λ x. stack_words S (callee c (term w.Open m ∷ x))) (put_words p (value e) (term w.Close z ∷ rest))) (called_tells c m (listed (put p (value e))) z S rest)
+  close_tells z e (inner_of i spot) rest = refl
+  close_tells z e (goal_of g site b) rest = tt
+  close_tells z e (lead_of l spot) rest = tt
+  close_tells z e (outputs_of o q site b) rest = tt
+  close_tells z e (op_of p S) rest = tt
+  close_tells z e (brace_of o q S) rest = tt
+  close_tells z e (row_of o rs q S) rest = tt
+
+  close_square_tells : (z : Mark) (e : Ex) (S : Stack) (rest : List Terminal) → Tells (Steps.close_square z e S) rest (stack_words S (ex e (term w.CloseSquare z ∷ rest)))
+  close_square_tells z e (row_of m rs p S) rest = ap (λ x. stack_words S (term w.OpenSquare m ∷ row_words rs x)) (put_words p (value e) (term w.CloseSquare z ∷ rest))
+  close_square_tells z e (goal_of g site b) rest = tt
+  close_square_tells z e (lead_of l spot) rest = tt
+  close_square_tells z e (inner_of i spot) rest = tt
+  close_square_tells z e (outputs_of o q site b) rest = tt
+  close_square_tells z e (op_of p S) rest = tt
+  close_square_tells z e (paren_of o S) rest = tt
+  close_square_tells z e (args_of f o q S) rest = tt
+  close_square_tells z e (brace_of o q S) rest = tt
+
+  close_brace_tells : (z : Mark) (e : Ex) (S : Stack) (rest : List Terminal) → Tells (Steps.close_brace z e S) rest (stack_words S (ex e (term w.CloseBrace z ∷ rest)))
+  close_brace_tells z e (brace_of n m S) rest = embraced_tells n m e z S rest
+  close_brace_tells z e (goal_of g site b) rest = tt
+  close_brace_tells z e (lead_of l spot) rest = tt
+  close_brace_tells z e (inner_of i spot) rest = tt
+  close_brace_tells z e (outputs_of o q site b) rest = tt
+  close_brace_tells z e (op_of p S) rest = tt
+  close_brace_tells z e (paren_of o S) rest = tt
+  close_brace_tells z e (args_of f o q S) rest = tt
+  close_brace_tells z e (row_of o rs q S) rest = tt
+
+  list_of_tells : (m : Mark) (e : Ex) (S : Stack) (rest : List Terminal) → Tells (Steps.list_of r m e S) rest (stack_words S (ex e (term w.Open m ∷ rest)))
+  list_of_tells m (bare c) S rest = roomy_tells (room r (suc (nests S))) (Ok (operand (args_of c m fresh S))) rest (stack_words S (callee c (term w.Open m ∷ rest))) refl
+  list_of_tells m e S rest = tt
+
+  brace_tells : (m : Mark) (e : Ex) (S : Stack) (rest : List Terminal) → Tells (Steps.brace r m e S) rest (stack_words S (ex e (term w.OpenBrace m ∷ rest)))
+  brace_tells m (bare (head (alone n))) S rest = roomy_tells (room r (suc (nests S))) (Ok (operand (brace_of n m S))) rest (stack_words S (named n ∷ term w.OpenBrace m ∷ rest)) refl
+  brace_tells m (bare (head (dotted h d n))) S rest = tt
+  brace_tells m (bare (braced n i x z)) S rest = tt
+  brace_tells m e S rest = tt
+
+  dot_behind_tells : (m : Mark) (e : Ex) (S : Stack) (rest : List Terminal) → Tells (Steps.dot_behind m e S) rest (stack_words S (ex e (term w.Dot m ∷ rest)))
+  dot_behind_tells m e S rest = choose (has_state e) (Ok (dot e m S)) refused rest (stack_words S (ex e (term w.Dot m ∷ rest))) refl tt
+
+  -- a step that first lets operators take the operand
+  reduced : (l : ℕ) (f : Ex → Stack → Step) (t : Terminal) (rest : List Terminal) → ((e : Ex) (S : Stack) → Tells (f e S) rest (stack_words S (ex e (t ∷ rest)))) → (e : Ex) (S : Stack)
+      → Tells (f (reduce l e S).operand (reduce l e S).stack) rest (stack_words S (ex e (t ∷ rest)))
+  reduced l f t rest h e S = retell (f (reduce l e S).operand (reduce l e S).stack) rest (stack_words (reduce l e S).stack (ex (reduce l e S).operand (t ∷ rest))) (stack_words S (ex e (t ∷ rest))) (reduce_tells l e S (t ∷ rest)) (h (reduce l e S).operand (reduce l e S).stack)
+
+  go_on_tells : (word : Word) (m : Mark) (e : Ex) (S : Stack) (rest : List Terminal) → Tells (go_on r word m e S) rest (stack_words S (ex e (term word m ∷ rest)))
+  go_on_tells (w.Binary o) m e S rest = operator_tells o (additive_of o) m e S rest refl
+  go_on_tells w.Quote m e S rest = reduced 10 (λ x T. Steps.transpose r m x T) (term w.Quote m) rest (λ x T. transpose_tells m x T rest) e S
+  go_on_tells w.Colon m e S rest = reduced 7 (λ x T. Steps.range r m x T) (term w.Colon m) rest (λ x T. range_tells m x T rest) e S
+  go_on_tells w.Equal m e S rest = assign_tells m e S rest
+  go_on_tells w.Comma m e S rest = reduced 0 (λ x T. Steps.end_comma m x T) (term w.Comma m) rest (λ x T. end_comma_tells m x T rest) e S
+  go_on_tells w.Semicolon m e S rest = reduced 0 (λ x T. Steps.end_row (record { kind = semicolon; mark = m }) x T) (term w.Semicolon m) rest (λ x T. end_row_tells (record { kind = semicolon; mark = m }) x T rest) e S
+  go_on_tells w.LineEnd m e S rest = reduced 0 (λ x T. Steps.end_row (record { kind = line; mark = m }) x T) (term w.LineEnd m) rest (λ x T. end_row_tells (record { kind = line; mark = m }) x T rest) e S
+  go_on_tells w.Open m e S rest = list_of_tells m e S rest
+  go_on_tells w.Close m e S rest = reduced 0 (λ x T. Steps.close m x T) (term w.Close m) rest (λ x T. close_tells m x T rest) e S
+  go_on_tells w.CloseSquare m e S rest = reduced 0 (λ x T. Steps.close_square m x T) (term w.CloseSquare m) rest (λ x T. close_square_tells m x T rest) e S
+  go_on_tells w.OpenBrace m e S rest = brace_tells m e S rest
+  go_on_tells w.CloseBrace m e S rest = reduced 0 (λ x T. Steps.close_brace m x T) (term w.CloseBrace m) rest (λ x T. close_brace_tells m x T rest) e S
+  go_on_tells w.Dot m e S rest = dot_behind_tells m e S rest
+  go_on_tells word m e S rest = tt
+
+  apart_tells : (e : Ex) (S : Stack) (go : Stack → Step) (t : Terminal) (rest : List Terminal) → ((T : Stack) → Tells (go T) rest (stack_words T (t ∷ rest))) → Tells (Steps.apart e S go) rest (stack_words S (ex e (t ∷ rest)))
+  apart_tells e (row_of m rs p S) go t rest h = retell (go (row_of m rs (behind (put p (value e)) space) S)) rest (stack_words S (term w.OpenSquare m ∷ row_words rs (elements (put p (value e)) (t ∷ rest)))) (stack_words S (term w.OpenSquare m ∷ row_words rs (pending_words p (ex e (t ∷ rest))))) (ap (λ x. stack_words S (term w.OpenSquare m ∷ row_words rs x)) (put_words p (value e) (t ∷ rest))) (h (row_of m rs (behind (put p (value e)) space) S))
+  apart_tells e (goal_of g site b) go t rest h = tt
+  apart_tells e (lead_of l spot) go t rest h = tt
+  apart_tells e (inner_of i spot) go t rest h = tt
+  apart_tells e (outputs_of o q site b) go t rest h = tt
+  apart_tells e (op_of p S) go t rest h = tt
+  apart_tells e (paren_of o S) go t rest h = tt
+  apart_tells e (args_of f o q S) go t rest h = tt
+  apart_tells e (brace_of o q S) go t rest h = tt
+
+  after_tells : (word : Word) (m : Mark) (e : Ex) (S : Stack) (rest : List Terminal) → Tells (read_after r word m e S) rest (stack_words S (ex e (term word m ∷ rest)))
+  after_tells word m e S rest = choose (Steps.begins_element word S && (in_row S && m.gap)) (Steps.apart (reduce 0 e S).operand (reduce 0 e S).stack (λ row. read_operand r word m row)) (go_on r word m e S) rest (stack_words S (ex e (term word m ∷ rest)))
+    (reduced 0 (λ x T. Steps.apart x T (λ row. read_operand r word m row)) (term word m) rest (λ x T. apart_tells x T (λ row. read_operand r word m row) (term word m) rest (λ U. operand_tells word m U rest)) e S)
+    (go_on_tells word m e S rest)
+
+  untear_tells : (e : Ex) (a : Additive) (n : Mark) (S : Stack) (word : Word) (m : Mark) (rest : List Terminal) → Tells (Steps.untear r e a n S word m) rest (stack_words S (ex e (term (w.Binary (bin_of a)) n ∷ term word m ∷ rest)))
+  untear_tells e a n S word m rest =
+      let ts : List Terminal = stack_words S (ex e (term (w.Binary (bin_of a)) n ∷ term word m ∷ rest)) in
+      let T : Stack = (reduce 7 e S).stack in
+      let x : Ex = (reduce 7 e S).operand in
+      choose m.gap (roomy (room r (suc (height x + nests T))) (read_operand r word m (op_of (joined x (bin_of a) n no_signs) T))) (Steps.apart (reduce 0 e S).operand (reduce 0 e S).stack (λ row. read_operand r word m (op_of (signed n (additive a)) row))) rest ts
+        (roomy_tells (room r (suc (height x + nests T))) (read_operand r word m (op_of (joined x (bin_of a) n no_signs) T)) rest ts
+          (retell (read_operand r word m (op_of (joined x (bin_of a) n no_signs) T)) rest (stack_words T (ex x (term (w.Binary (bin_of a)) n ∷ term word m ∷ rest))) ts (reduce_tells 7 e S (term (w.Binary (bin_of a)) n ∷ term word m ∷ rest)) (operand_tells word m (op_of (joined x (bin_of a) n no_signs) T) rest)))
+        (retell (Steps.apart (reduce 0 e S).operand (reduce 0 e S).stack (λ row. read_operand r word m (op_of (signed n (additive a)) row))) rest (stack_words (reduce 0 e S).stack (ex (reduce 0 e S).operand (term (w.Binary (bin_of a)) n ∷ term word m ∷ rest))) ts (reduce_tells 0 e S (term (w.Binary (bin_of a)) n ∷ term word m ∷ rest))
+          (sign_apart (reduce 0 e S).operand (reduce 0 e S).stack))
+    where
+      sign_apart : (y : Ex) (U : Stack) → Tells (Steps.apart y U (λ row. read_operand r word m (op_of (signed n (additive a)) row))) rest (stack_words U (ex y (term (w.Binary (bin_of a)) n ∷ term word m ∷ rest)))
+      sign_apart y (row_of o rs p U) = retell (read_operand r word m (op_of (signed n (additive a)) (row_of o rs (behind (put p (value y)) space) U))) rest (stack_words U (term w.OpenSquare o ∷ row_words rs (elements (put p (value y)) (term (w.Binary (bin_of a)) n ∷ term word m ∷ rest)))) (stack_words U (term w.OpenSquare o ∷ row_words rs (pending_words p (ex y (term (w.Binary (bin_of a)) n ∷ term word m ∷ rest))))) (ap (λ z. stack_words U (term w.OpenSquare o ∷ row_words rs z)) (put_words p (value y) (term (w.Binary (bin_of a)) n ∷ term word m ∷ rest))) (operand_tells word m (op_of (signed n (additive a)) (row_of o rs (behind (put p (value y)) space) U)) rest)
+      sign_apart y (goal_of g site c) = tt
+      sign_apart y (lead_of l spot) = tt
+      sign_apart y (inner_of i spot) = tt
+      sign_apart y (outputs_of o q site c) = tt
+      sign_apart y (op_of p S) = tt
+      sign_apart y (paren_of o S) = tt
+      sign_apart y (args_of f o q S) = tt
+      sign_apart y (brace_of o q S) = tt
