@@ -27,20 +27,20 @@ abbrev pub Tells : Step → List Terminal → List Terminal → Type 0
 Tells (Ok st) rest ts = told st rest ≡ ts
 Tells (Err f) rest ts = Unit {0}
 
-roomy_tells : (v : Bool) (s : Step) (rest ts : List Terminal) → Tells s rest ts → Tells (roomy v s) rest ts
+pub roomy_tells : (v : Bool) (s : Step) (rest ts : List Terminal) → Tells s rest ts → Tells (roomy v s) rest ts
 roomy_tells true s rest ts h = h
 roomy_tells false (Ok st) rest ts h = tt
 roomy_tells false (Err f) rest ts h = tt
 
-retell : (s : Step) (rest ts us : List Terminal) → ts ≡ us → Tells s rest ts → Tells s rest us
+pub retell : (s : Step) (rest ts us : List Terminal) → ts ≡ us → Tells s rest ts → Tells s rest us
 retell s rest ts us e h = subst (λ x. Tells s rest x) e h
 
-choose : (v : Bool) (s t : Step) (rest ts : List Terminal) → Tells s rest ts → Tells t rest ts → Tells (if v then s else t) rest ts
+pub choose : (v : Bool) (s t : Step) (rest ts : List Terminal) → Tells s rest ts → Tells t rest ts → Tells (if v then s else t) rest ts
 choose v s t rest ts h j = pick (λ x. Tells x rest ts) v s t h j
 
 -- ---- operators, elements, outputs
 
-reduce_tells : (l : ℕ) (e : Ex) (S : Stack) (rest : List Terminal) → stack_words (reduce l e S).stack (ex (reduce l e S).operand rest) ≡ stack_words S (ex e rest)
+pub reduce_tells : (l : ℕ) (e : Ex) (S : Stack) (rest : List Terminal) → stack_words (reduce l e S).stack (ex (reduce l e S).operand rest) ≡ stack_words S (ex e rest)
 reduce_tells l e (goal_of g site b) rest = refl
 reduce_tells l e (lead_of i spot) rest = refl
 reduce_tells l e (inner_of i spot) rest = refl
@@ -51,15 +51,15 @@ reduce_tells l e (args_of c m p S) rest = refl
 reduce_tells l e (brace_of n m S) rest = refl
 reduce_tells l e (row_of m rs p S) rest = refl
 
-put_words : (p : Pending) (i : Item) (rest : List Terminal) → elements (put p i) rest ≡ pending_words p (item i rest)
+pub put_words : (p : Pending) (i : Item) (rest : List Terminal) → elements (put p i) rest ≡ pending_words p (item i rest)
 put_words fresh i rest = refl
 put_words (behind es c) i rest = refl
 
-put_out_words : (p : Outgoing) (o : Output) (rest : List Terminal) → outputs (put_out p o) rest ≡ outgoing_words p (output_words o rest)
+pub put_out_words : (p : Outgoing) (o : Output) (rest : List Terminal) → outputs (put_out p o) rest ≡ outgoing_words p (output_words o rest)
 put_out_words fresh_outs o rest = refl
 put_out_words (behind_outs os c) o rest = refl
 
-put_param_words : (p : Waiting) (x : Param) (rest : List Terminal) → param_words (put_param p x) rest ≡ waiting_words p (param x rest)
+pub put_param_words : (p : Waiting) (x : Param) (rest : List Terminal) → param_words (put_param p x) rest ≡ waiting_words p (param x rest)
 put_param_words fresh_params x rest = refl
 put_param_words (behind_params ps c) x rest = refl
 
@@ -173,7 +173,7 @@ as_outputs_words (brace_of n o S) l rest h = cc
 
 -- ---- an operand has to come
 
-called_tells : (c : Callee) (m : Mark) (a : Args) (z : Mark) (S : Stack) (rest : List Terminal) → Tells (called c m a z S) rest (stack_words S (callee c (term w.Open m ∷ args a (term w.Close z ∷ rest))))
+pub called_tells : (c : Callee) (m : Mark) (a : Args) (z : Mark) (S : Stack) (rest : List Terminal) → Tells (called c m a z S) rest (stack_words S (callee c (term w.Open m ∷ args a (term w.Close z ∷ rest))))
 called_tells (head (alone n)) m a z (outputs_of o p site b) rest = ap (λ x. site_words site (block b (term w.OpenSquare o ∷ x))) (put_out_words p (to (indexed n m a z)) rest)
 called_tells (head (alone n)) m a z (goal_of g site b) rest = refl
 called_tells (head (alone n)) m a z (lead_of l spot) rest = refl
@@ -186,7 +186,7 @@ called_tells (head (alone n)) m a z (row_of o rs p S) rest = refl
 called_tells (head (dotted h d n)) m a z S rest = refl
 called_tells (braced n i e y) m a z S rest = refl
 
-embraced_tells : (n : Named) (m : Mark) (e : Ex) (z : Mark) (S : Stack) (rest : List Terminal) → Tells (embraced n m e z S) rest (stack_words S (named n ∷ term w.OpenBrace m ∷ ex e (term w.CloseBrace z ∷ rest)))
+pub embraced_tells : (n : Named) (m : Mark) (e : Ex) (z : Mark) (S : Stack) (rest : List Terminal) → Tells (embraced n m e z S) rest (stack_words S (named n ∷ term w.OpenBrace m ∷ ex e (term w.CloseBrace z ∷ rest)))
 embraced_tells n m e z (outputs_of o p site b) rest = ap (λ x. site_words site (block b (term w.OpenSquare o ∷ x))) (put_out_words p (to (in_braces n m e z)) rest)
 embraced_tells n m e z (goal_of g site b) rest = refl
 embraced_tells n m e z (lead_of l spot) rest = refl
@@ -327,7 +327,7 @@ module _ (r : Rules) where
   last_tells word m S rest true h = cc
   last_tells word m S rest false h = tt
 
-  operand_tells : (word : Word) (m : Mark) (S : Stack) (rest : List Terminal) → Tells (read_operand r word m S) rest (stack_words S (term word m ∷ rest))
+  pub operand_tells : (word : Word) (m : Mark) (S : Stack) (rest : List Terminal) → Tells (read_operand r word m S) rest (stack_words S (term word m ∷ rest))
   operand_tells (w.Name n) m S rest = refl
   operand_tells (w.Chars cs) m S rest = refl
   operand_tells (w.Number z) m S rest = refl
@@ -409,7 +409,7 @@ module _ (r : Rules) where
   assign_tells q e (brace_of o y S) rest = tt
   assign_tells q e (row_of o rs y S) rest = tt
 
-  settle_words : (g : Goal) (e : Ex) (rest : List Terminal) → smt (settle g e) rest ≡ goal g (ex e rest)
+  pub settle_words : (g : Goal) (e : Ex) (rest : List Terminal) → smt (settle g e) rest ≡ goal g (ex e rest)
   settle_words shown e rest = refl
   settle_words (spread m os z q) e rest = refl
   settle_words (into (entire n) q) e rest = refl
@@ -417,11 +417,11 @@ module _ (r : Rules) where
   settle_words (into (indexed n m a z) q) (rows o no_rows y) rest = refl
   settle_words (into (indexed n m a z) q) e rest = refl
 
-  enter_words : (p : Part) (spot : Spot) (rest : List Terminal) → site_words (enter p spot) rest ≡ spot_words spot (part p rest)
+  pub enter_words : (p : Part) (spot : Spot) (rest : List Terminal) → site_words (enter p spot) rest ≡ spot_words spot (part p rest)
   enter_words p (here site b) rest = refl
   enter_words p (linked o b site before) rest = refl
 
-  end_simple_tells : (s : Sep) (e : Ex) (S : Stack) (rest : List Terminal) → Tells (Steps.end_simple s e S) rest (stack_words S (ex e (sep s rest)))
+  pub end_simple_tells : (s : Sep) (e : Ex) (S : Stack) (rest : List Terminal) → Tells (Steps.end_simple s e S) rest (stack_words S (ex e (sep s rest)))
   end_simple_tells s e (goal_of g site b) rest = ap (λ x. site_words site (block b x)) (settle_words g e (sep s rest))
   end_simple_tells s e (lead_of l spot) rest = enter_words (headed (upto l e) s) spot rest
   end_simple_tells s e (inner_of i spot) rest = tt
@@ -540,12 +540,12 @@ module _ (r : Rules) where
   apart_tells e (args_of f o q S) go t rest h = tt
   apart_tells e (brace_of o q S) go t rest h = tt
 
-  after_tells : (word : Word) (m : Mark) (e : Ex) (S : Stack) (rest : List Terminal) → Tells (read_after r word m e S) rest (stack_words S (ex e (term word m ∷ rest)))
+  pub after_tells : (word : Word) (m : Mark) (e : Ex) (S : Stack) (rest : List Terminal) → Tells (read_after r word m e S) rest (stack_words S (ex e (term word m ∷ rest)))
   after_tells word m e S rest = choose (Steps.begins_element word S && (in_row S && m.gap)) (Steps.apart (reduce 0 e S).operand (reduce 0 e S).stack (λ row. read_operand r word m row)) (go_on r word m e S) rest (stack_words S (ex e (term word m ∷ rest)))
     (reduced 0 (λ x T. Steps.apart x T (λ row. read_operand r word m row)) (term word m) rest (λ x T. apart_tells x T (λ row. read_operand r word m row) (term word m) rest (λ U. operand_tells word m U rest)) e S)
     (go_on_tells word m e S rest)
 
-  untear_tells : (e : Ex) (a : Additive) (n : Mark) (S : Stack) (word : Word) (m : Mark) (rest : List Terminal) → Tells (Steps.untear r e a n S word m) rest (stack_words S (ex e (term (w.Binary (bin_of a)) n ∷ term word m ∷ rest)))
+  pub untear_tells : (e : Ex) (a : Additive) (n : Mark) (S : Stack) (word : Word) (m : Mark) (rest : List Terminal) → Tells (Steps.untear r e a n S word m) rest (stack_words S (ex e (term (w.Binary (bin_of a)) n ∷ term word m ∷ rest)))
   untear_tells e a n S word m rest =
       let ts : List Terminal = stack_words S (ex e (term (w.Binary (bin_of a)) n ∷ term word m ∷ rest)) in
       let T : Stack = (reduce 7 e S).stack in
