@@ -24,7 +24,7 @@ use Rattle.pl_grammar.proofs.Fore.{Fore, plainly, by_sign, sticks_fore, gap_next
 -- ---- operators on top that don't take the operand
 
 -- the operator on top holds less strongly
-abbrev Weak : Stack → ℕ → Type 0
+abbrev pub Weak : Stack → ℕ → Type 0
 Weak (goal_of g site b) l = Unit {0}
 Weak (lead_of h spot) l = Unit {0}
 Weak (inner_of i spot) l = Unit {0}
@@ -38,10 +38,10 @@ Weak (row_of m rs p S) l = Unit {0}
 abbrev held : Ex → Stack → Held
 held e S = record { operand = e; stack = S }
 
-too_weak : (l s : ℕ) → suc s ≤ l → nat_le l s ≡ false
+pub too_weak : (l s : ℕ) → suc s ≤ l → nat_le l s ≡ false
 too_weak l s h = Rattle.std.proofs.lemmas.Bool.lt-leb l s h
 
-stays : (l : ℕ) (e : Ex) (S : Stack) → Weak S l → reduce l e S ≡ held e S
+pub stays : (l : ℕ) (e : Ex) (S : Stack) → Weak S l → reduce l e S ≡ held e S
 stays l e (goal_of g site b) h = refl
 stays l e (lead_of i spot) h = refl
 stays l e (inner_of i spot) h = refl
@@ -59,7 +59,7 @@ weak_op (from a m) l h j = omega (arith, h)
 weak_op (stepped a m b n) l h j = omega (arith, h)
 
 -- what takes an operand of tightness l holds less strongly than l
-weak : (S : Stack) (l : ℕ) → Accepts S l → (9 ≤ l → 10 ≤ l) → Weak S l
+pub weak : (S : Stack) (l : ℕ) → Accepts S l → (9 ≤ l → 10 ≤ l) → Weak S l
 weak (goal_of g site b) l h j = tt
 weak (lead_of i spot) l h j = tt
 weak (inner_of i spot) l h j = tt
@@ -71,7 +71,7 @@ weak (brace_of n m S) l h j = tt
 weak (row_of m rs p S) l h j = tt
 
 -- what takes a range holds less strongly than a sum
-weak_range : (S : Stack) → Accepts S 6 → Weak S 7
+pub weak_range : (S : Stack) → Accepts S 6 → Weak S 7
 weak_range (goal_of g site b) h = tt
 weak_range (lead_of i spot) h = tt
 weak_range (inner_of i spot) h = tt
@@ -89,7 +89,7 @@ pub pick : {A : Type 0} (P : A → Type 0) (v : Bool) (x y : A) → P x → P y 
 pick P true x y h j = h
 pick P false x y h j = j
 
-reduced_nests : (l : ℕ) (e : Ex) (S : Stack) → nests (reduce l e S).stack ≤ nests S
+pub reduced_nests : (l : ℕ) (e : Ex) (S : Stack) → nests (reduce l e S).stack ≤ nests S
 reduced_nests l e (goal_of g site b) = omega arith
 reduced_nests l e (lead_of i spot) = omega arith
 reduced_nests l e (inner_of i spot) = omega arith
@@ -104,7 +104,7 @@ reduced_nests l e (row_of m rs p S) = omega arith
 
 module _ (r : Rules) where
   -- a list that closes is an expression where the frames take one
-  plain_call : (c : Callee) (m : Mark) (a : Args) (z : Mark) (S : Stack) → Accepts S 11 → called c m a z S ≡ Ok (after (call c m a z) S)
+  pub plain_call : (c : Callee) (m : Mark) (a : Args) (z : Mark) (S : Stack) → Accepts S 11 → called c m a z S ≡ Ok (after (call c m a z) S)
   plain_call (head (alone n)) m a z (goal_of g site b) h = refl
   plain_call (head (alone n)) m a z (lead_of l spot) h = refl
   plain_call (head (alone n)) m a z (inner_of i spot) h = refl
@@ -117,7 +117,7 @@ module _ (r : Rules) where
   plain_call (head (dotted d i n)) m a z S h = refl
   plain_call (braced n i e y) m a z S h = refl
 
-  plain_brace : (n : Named) (m : Mark) (e : Ex) (z : Mark) (S : Stack) → Accepts S 11 → embraced n m e z S ≡ Ok (after (bare (braced n m e z)) S)
+  pub plain_brace : (n : Named) (m : Mark) (e : Ex) (z : Mark) (S : Stack) → Accepts S 11 → embraced n m e z S ≡ Ok (after (bare (braced n m e z)) S)
   plain_brace n m e z (goal_of g site b) h = refl
   plain_brace n m e z (lead_of l spot) h = refl
   plain_brace n m e z (inner_of i spot) h = refl
@@ -453,7 +453,7 @@ module _ (r : Rules) where
   goes_on row (from a m) e S ts f h = tt
   goes_on row (stepped a m b n) e S ts f h = tt
 
-  power_not_additive : (o : Bin) → is_power o ≡ true → additive_of o ≡ None
+  pub power_not_additive : (o : Bin) → is_power o ≡ true → additive_of o ≡ None
   power_not_additive bin.Pow h = refl
   power_not_additive bin.DotPow h = refl
   power_not_additive bin.OrElse h = refl

@@ -1,0 +1,191 @@
+-- A terminal where an operand has to come leads to a good state.
+use Rattle.std.proofs.Common.{◌≡◌, ◌∙◌, ℕ, suc, ◌+◌, Bool, true, false, not, ◌&&◌, if◌then◌else◌, Option, Some, None, List, [], ◌∷◌, length, Ok, Err, refl, ap, sym, subst, arith, ◌≤◌}
+use Rattle.std.specs.Prelude.{nat_le, nat_eq, leb, codes, max, is_some}
+use Rattle.std.proofs.Math.Nat.{le-max_left, le-max_right, max-eq_left, max-eq_right}
+use Rattle.std.specs.Cmp.{first_so, second_so}
+use Rattle.std.specs.Cmp.Lexicographic.{pointwise}
+use Rattle.std.proofs.lemmas.Bool.{leb-true, leb-false}
+use Rattle.pl_syntax.specs.declared.expr.Bin.{Bin}
+use Rattle.pl_grammar.specs.declared.terminal.Terminal.{Terminal}
+use Rattle.pl_grammar.specs.declared.terminal.Word.{Word}
+use Rattle.pl_grammar.specs.declared.terminal.Word.TheVariants as w
+use Rattle.pl_grammar.specs.declared.terminal.Keyword.{Keyword}
+use Rattle.pl_grammar.specs.declared.terminal.Keyword.TheVariants as k
+use Rattle.pl_grammar.specs.Words.{Mark, term, mark_of, Named, named, Additive, bin_of, Sign, additive, tilde, sign_word, additive_of, level, is_power, SepKind, comma, semicolon, line, Sep, sep_word, Use, tests, loops, direct, plain, leaves, ends, defines, unused, use_of, is_link, follows, Dots, whole, stem, neither, dots, is_state}
+use Rattle.pl_grammar.specs.Derivations.{Head, alone, dotted, Signs, no_signs, more_signs, Comma, written, space, Trail, no_trail, trail, Ex, number, chars, bare, call, state, paren, rows, rows_to, func, last, under, transposed, Op, joined, signed, from, stepped, Callee, head, braced, Args, no_args, listed, Elements, one, also, Item, value, colon, Rows, no_rows, broken, filled, Tgt, entire, indexed, in_braces, Output, to, skip, Outputs, only, beside, Goal, shown, into, spread, Lead, test, each, Inner, each_in, bound, workers, Heading, upto, shut, no_value, Part, headed, unheaded, Smt, simple, delete, leave, compound, Block, empty, blank, statement, Opened, Param, taken, ignored, Params, Listing, no_params, params, Outs, no_outs, single, several, Given, no_list, given, Title, title, fun, Top, script, define, spaced, Prog, whole_of, unended}
+use Rattle.pl_grammar.specs.Trees.{head_mark, mark, op_mark, callee_mark, tgt_mark}
+use Rattle.pl_grammar.specs.Nesting.{count, weight, height, op_height, callee_height, args_height, elements_height, item_height, rows_height, tgt_height, output_height, skips, across, run_of, outputs_height, goal_height, inner_height, heading_height, part_height, smt_height, block_height, opened_height, fun_height, top_height, prog_height}
+use Rattle.pl_grammar.specs.Sound.{IsStem, IsHead, has_state, strength, wants, tightness, signs_stick, sticks, op_sticks, IsEven, IsTight, Leads, IsApart, signs_fit, IsRowBreak, IsSpaced, SoundEx, SoundOp, SoundCallee, SoundArgs, SoundElements, SoundItem, SoundRows, SoundTgt, SoundOutput, output_mark, IsOutputApart, SoundOutputs, SoundGoal, is_nothing, deletes, Scene, outermost, inside, may, SoundLead, SoundInner, SoundHeading, SoundPart, lead_word, inner_word, heading_word, part_word, opened_word, SoundSmt, SoundBlock, SoundOpened, IsNamed, AreNamed, ListsNames, SoundOuts, title_name, fun_name, has_function, SoundTitle, SoundFun, IsBehind, SoundTop, SoundProg}
+use Rattle.pl_grammar.specs.Programs.{Rules}
+use Rattle.pl_grammar.specs.Machine.{Pending, fresh, behind, Outgoing, fresh_outs, behind_outs, Waiting, fresh_params, behind_params, put, put_out, put_param, Site, main, body, within, Spot, here, linked, Stack, goal_of, lead_of, inner_of, outputs_of, op_of, paren_of, args_of, brace_of, row_of, Titling, begun_title, worded, outs_of, out_of, outs_shut, naming, entitled, params_of, param_of, titled, State, start, finished, operand, after, coloned, torn, at_sign, stemmed, dot, output, output_read, outputs_shut, loop, loop_in, index, index_in, ready, titling, between, spot_site, site_nests, outgoing_run, scene, enter, nests, in_row, in_index, beginning}
+use Rattle.pl_grammar.specs.Steps
+use Rattle.pl_grammar.specs.Steps.{Step, Held, roomy, room, refused, reduce, run, step, onward, Answer, callee_tgt, tgt_of, set_out, set_tgt, pass, element_outputs, item_outputs, behind_all, row_outputs, pending_outputs, Outlist, as_outputs, called, embraced, read_operand, go_on, read_after, settle, ended}
+use Rattle.pl_grammar.proofs.Basics.{level_most, level_jumps, strength_most, strength_wants, Accepts, accepts_more, additive_level}
+use Rattle.pl_grammar.proofs.Reading.{Weak, plain_call, plain_brace, power_not_additive, too_weak}
+use Rattle.pl_grammar.proofs.Sites.{Placed, Free, Led, IsWritten, PendingArgs, PendingRow, pending_height, OutsSound, outs_height, IsNextOut, WaitingNames, AloneBehind, ListOn, BraceOn, Unique, TopGood, SiteGood, BlockGood, SpotGood, Fits, spot_room, OutsGood, StackGood, Fitting, AfterGood, IsList, DotOn, TitlingGood, Good, Fine}
+
+-- ---- room
+
+pub max_room : (a b n l : ℕ) → a + n ≤ l → b + n ≤ l → max a b + n ≤ l
+max_room a b n l h j = by_order (leb b a) refl
+  where
+    by_order : (v : Bool) → leb b a ≡ v → max a b + n ≤ l
+    by_order true g = let e : max a b ≡ a = max-eq_left (leb-true b a g) in omega (arith, e, h)
+    by_order false g = let f : a ≤ b = omega (arith, leb-false b a g) in let e : max a b ≡ b = max-eq_right f in omega (arith, e, j)
+
+pub decide : {A : Type 0} (P : A → Type 0) (v : Bool) (x y : A) → (v ≡ true → P x) → (v ≡ false → P y) → P (if v then x else y)
+decide P true x y h j = h refl
+decide P false x y h j = j refl
+
+pub both_true : (a b : Bool) → (a && b) ≡ true → (a ≡ true) × (b ≡ true)
+both_true true b h = (refl, h)
+both_true false b h = cc
+
+module _ (r : Rules) where
+  pub there_is : (n : ℕ) → room r n ≡ true → n ≤ r.limit
+  there_is n h = leb-true n r.limit h
+
+  pub fine_roomy : (n : ℕ) (s : Step) → (n ≤ r.limit → Fine r s) → Fine r (roomy (room r n) s)
+  fine_roomy n s h = by_room (room r n) refl
+    where
+      failed : (x : Step) → Fine r (roomy false x)
+      failed (Ok st) = tt
+      failed (Err f) = tt
+      by_room : (v : Bool) → room r n ≡ v → Fine r (roomy v s)
+      by_room true g = h (there_is n g)
+      by_room false g = failed s
+
+  pub stack_room : (S : Stack) → StackGood r S → nests S ≤ r.limit
+  stack_room (goal_of g site b) h = omega (arith, h.3)
+  stack_room (lead_of l spot) h = h.3
+  stack_room (inner_of i spot) h = omega (arith, h.3)
+  stack_room (outputs_of m p site b) h = omega (arith, h.4)
+  stack_room (op_of p S) h = h.4
+  stack_room (paren_of m S) h = h.2
+  stack_room (args_of c m p S) h = omega (arith, h.3)
+  stack_room (brace_of n m S) h = h.1
+  stack_room (row_of m rs p S) h = omega (arith, h.4)
+
+  -- ---- operators that take their operand
+
+  pub accepts_at : (S : Stack) (k l : ℕ) → Accepts S k → Weak S l → Accepts S l
+  accepts_at (goal_of g site b) k l h v = tt
+  accepts_at (lead_of i spot) k l h v = tt
+  accepts_at (inner_of i spot) k l h v = tt
+  accepts_at (outputs_of m p site b) k l h v = h
+  accepts_at (op_of (joined a o m us) S) k l h v = v
+  accepts_at (op_of (signed m s) S) k l h v = omega (arith, v)
+  accepts_at (op_of (from a m) S) k l h v = v
+  accepts_at (op_of (stepped a m b n) S) k l h v = v
+  accepts_at (paren_of m S) k l h v = tt
+  accepts_at (args_of c m p S) k l h v = tt
+  accepts_at (brace_of n m S) k l h v = tt
+  accepts_at (row_of m rs p S) k l h v = tt
+
+  wants_most : (p : Op) → wants p ≤ 11
+  wants_most (joined a o m us) = omega (arith, level_most o)
+  wants_most (signed m s) = omega arith
+  wants_most (from a m) = omega arith
+  wants_most (stepped a m b n) = omega arith
+
+  pub accepts_all : (S : Stack) (k : ℕ) → Accepts S k → Accepts S 11
+  accepts_all (goal_of g site b) k h = tt
+  accepts_all (lead_of i spot) k h = tt
+  accepts_all (inner_of i spot) k h = tt
+  accepts_all (outputs_of m p site b) k h = h
+  accepts_all (op_of p S) k h = wants_most p
+  accepts_all (paren_of m S) k h = tt
+  accepts_all (args_of c m p S) k h = tt
+  accepts_all (brace_of n m S) k h = tt
+  accepts_all (row_of m rs p S) k h = tt
+
+  placed_under : (p : Op) (e : Ex) (S : Stack) → Led p S → Placed (mark e).gap (sticks e) (op_of p S) → Placed (mark (under p e)).gap (sticks (under p e)) S
+  placed_under (joined a o m us) e S h j = h
+  placed_under (signed m s) e S h j = j
+  placed_under (from a m) e S h j = h
+  placed_under (stepped a m b n) e S h j = h
+
+  spaced_under : (p : Op) (e : Ex) (S : Stack) → Placed (mark e).gap (sticks e) (op_of p S) → IsSpaced (in_row S) p e
+  spaced_under (joined a o m no_signs) e S h = h
+  spaced_under (joined a o m (more_signs us n s)) e S h = tt
+  spaced_under (signed m s) e S h = tt
+  spaced_under (from a m) e S h = tt
+  spaced_under (stepped a m b n) e S h = tt
+
+  pub under_fits : (p : Op) (e : Ex) (S : Stack) → Fitting r e (op_of p S) → Fitting r (under p e) S
+  under_fits p e S h = (h.0.0, (h.0.1, h.2, spaced_under p e S h.4, h.1), h.0.2, max_room (op_height p) (weight p + height e) (nests S) r.limit h.0.3 (omega (arith, h.3)), placed_under p e S h.0.5 h.4)
+
+  -- what is left when the operators on top have taken the operand
+  abbrev pub Left : ℕ → Bool → Held → Type 0
+  Left l row h = Fitting r h.operand h.stack × (l ≤ tightness h.operand) × Weak h.stack l × (in_row h.stack ≡ row)
+
+  pub reduce_good : (l : ℕ) (e : Ex) (S : Stack) → Fitting r e S → l ≤ tightness e → Left l (in_row S) (reduce l e S)
+  reduce_good l e (goal_of g site b) h t = (h, t, tt, refl)
+  reduce_good l e (lead_of i spot) h t = (h, t, tt, refl)
+  reduce_good l e (inner_of i spot) h t = (h, t, tt, refl)
+  reduce_good l e (outputs_of m p site b) h t = (h, t, tt, refl)
+  reduce_good l e (op_of p S) h t =
+      decide (λ x. Left l (in_row S) x) (nat_le l (strength p)) (reduce l (under p e) S) (record { operand = e; stack = op_of p S })
+        (λ g. reduce_good l (under p e) S (under_fits p e S h) (leb-true l (strength p) g))
+        (λ g. (h, t, leb-false l (strength p) g, refl))
+  reduce_good l e (paren_of m S) h t = (h, t, tt, refl)
+  reduce_good l e (args_of c m p S) h t = (h, t, tt, refl)
+  reduce_good l e (brace_of n m S) h t = (h, t, tt, refl)
+  reduce_good l e (row_of m rs p S) h t = (h, t, tt, refl)
+
+  -- ---- what a word asks of the white space before it
+
+  abbrev pub Enters : Word → Mark → Stack → Type 0
+  Enters (w.Binary o) m S = (sticky : Bool) → Placed m.gap sticky S
+  Enters word m S = Placed m.gap true S
+
+  pub enters_free : (word : Word) (m : Mark) (S : Stack) → Free S → Enters word m S
+  enters_free (w.Binary o) m S f = λ sticky. f m.gap sticky
+  enters_free (w.Name n) m S f = f m.gap true
+  enters_free word m S f = f m.gap true
+
+  -- ---- lists and braces that close
+
+  tight_row : (m : Mark) → m.gap ≡ false → IsTight true m
+  tight_row m h = h
+
+  next_list : (p : Outgoing) (n : Named) (m : Mark) (a : Args) (z : Mark) → IsNextOut p (to (entire n)) → IsNextOut p (to (indexed n m a z))
+  next_list fresh_outs n m a z h = tt
+  next_list (behind_outs os (written c)) n m a z h = tt
+  next_list (behind_outs os space) n m a z h = h
+
+  next_braces : (p : Outgoing) (n : Named) (m : Mark) (e : Ex) (z : Mark) → IsNextOut p (to (entire n)) → IsNextOut p (to (in_braces n m e z))
+  next_braces fresh_outs n m e z h = tt
+  next_braces (behind_outs os (written c)) n m e z h = tt
+  next_braces (behind_outs os space) n m e z h = h
+
+  call_after : (c : Callee) (m : Mark) (a : Args) (z : Mark) (S : Stack) → StackGood r S → SoundCallee c → SoundArgs a → callee_height c + nests S ≤ r.limit → args_height a + suc (nests S) ≤ r.limit
+      → Accepts S 11 → IsTight (in_row S) m → Placed (callee_mark c).gap true S → Fine r (called c m a z S)
+  call_after c m a z S g s i l v x t p = subst (λ y. Fine r y) (sym (plain_call r c m a z S x)) ((g, (s, t, i), x, max_room (callee_height c) (suc (args_height a)) (nests S) r.limit l (omega (arith, v)), p), omega arith)
+
+  pub called_good : (c : Callee) (m : Mark) (a : Args) (z : Mark) (S : Stack) → StackGood r S → SoundCallee c → SoundArgs a → callee_height c + nests S ≤ r.limit → args_height a + suc (nests S) ≤ r.limit → ListOn c m S → Fine r (called c m a z S)
+  called_good c m a z (goal_of x site b) g s i l v o = call_after c m a z (goal_of x site b) g s i l v tt o tt
+  called_good c m a z (lead_of x spot) g s i l v o = call_after c m a z (lead_of x spot) g s i l v tt o tt
+  called_good c m a z (inner_of x spot) g s i l v o = call_after c m a z (inner_of x spot) g s i l v tt o tt
+  called_good (head (alone n)) m a z (outputs_of x p site b) g s i l v o = (g, next_list p n m a z o.1, (tight_row m o.0, i), omega (arith, v))
+  called_good (head (dotted h d n)) m a z (outputs_of x p site b) g s i l v o = absurd o.1
+  called_good (braced n j e y) m a z (outputs_of x p site b) g s i l v o = absurd o.1
+  called_good c m a z (op_of p S) g s i l v o = call_after c m a z (op_of p S) g s i l v o.0 o.1 o.2
+  called_good c m a z (paren_of x S) g s i l v o = call_after c m a z (paren_of x S) g s i l v tt o tt
+  called_good c m a z (args_of d x p S) g s i l v o = call_after c m a z (args_of d x p S) g s i l v tt o tt
+  called_good c m a z (brace_of x y S) g s i l v o = call_after c m a z (brace_of x y S) g s i l v tt o tt
+  called_good c m a z (row_of x rs p S) g s i l v o = call_after c m a z (row_of x rs p S) g s i l v tt o.0 o.1
+
+  brace_after : (n : Named) (m : Mark) (e : Ex) (z : Mark) (S : Stack) → StackGood r S → SoundEx false true e → suc (height e) + nests S ≤ r.limit → Accepts S 11 → Placed n.mark.gap true S → Fine r (embraced n m e z S)
+  brace_after n m e z S g s l x p = subst (λ y. Fine r y) (sym (plain_brace r n m e z S x)) ((g, s, x, l, p), omega arith)
+
+  pub embraced_good : (n : Named) (m : Mark) (e : Ex) (z : Mark) (S : Stack) → StackGood r S → SoundEx false true e → suc (height e) + nests S ≤ r.limit → BraceOn n S → Fine r (embraced n m e z S)
+  embraced_good n m e z (goal_of x site b) g s l o = brace_after n m e z (goal_of x site b) g s l tt tt
+  embraced_good n m e z (lead_of x spot) g s l o = brace_after n m e z (lead_of x spot) g s l tt tt
+  embraced_good n m e z (inner_of x spot) g s l o = brace_after n m e z (inner_of x spot) g s l tt tt
+  embraced_good n m e z (outputs_of x p site b) g s l o = (g, next_braces p n m e z o, s, omega (arith, l))
+  embraced_good n m e z (op_of p S) g s l o = brace_after n m e z (op_of p S) g s l o.0 o.1
+  embraced_good n m e z (paren_of x S) g s l o = brace_after n m e z (paren_of x S) g s l tt tt
+  embraced_good n m e z (args_of d x p S) g s l o = brace_after n m e z (args_of d x p S) g s l tt tt
+  embraced_good n m e z (brace_of x y S) g s l o = brace_after n m e z (brace_of x y S) g s l tt tt
+  embraced_good n m e z (row_of x rs p S) g s l o = brace_after n m e z (row_of x rs p S) g s l tt o
