@@ -189,3 +189,87 @@ module _ (r : Rules) where
   embraced_good n m e z (args_of d x p S) g s l o = brace_after n m e z (args_of d x p S) g s l tt tt
   embraced_good n m e z (brace_of x y S) g s l o = brace_after n m e z (brace_of x y S) g s l tt tt
   embraced_good n m e z (row_of x rs p S) g s l o = brace_after n m e z (row_of x rs p S) g s l tt o
+
+  -- ---- signs
+
+  raise_good : (x : Sign) (m : Mark) (S : Stack) → StackGood r S → Accepts S 9 → ((gap : Bool) → Placed m.gap (signs_stick x gap) S) → Fine r (Steps.raise r x m S)
+  raise_good x m S g a t = fine_roomy (suc (nests S)) (Ok (operand (op_of (signed m x) S))) (λ l. ((g, tt, a, omega (arith, l), omega (arith, l), tt), (λ gap sticky. t gap), omega arith))
+
+  not_power : (o : Bin) → is_power o ≡ false → suc (level o) ≤ 9
+  not_power o h = by_level (level o) h (level_jumps o) (level_most o)
+    where
+      by_level : (n : ℕ) → nat_eq n 10 ≡ false → (9 ≤ n → 10 ≤ n) → n ≤ 10 → suc n ≤ 9
+      by_level n f j k = by_nine (leb 9 n) refl
+        where
+          ten : (x : ℕ) → x ≡ 10 → nat_eq x 10 ≡ false → ⊥
+          ten x e f = let bad : nat_eq 10 10 ≡ false = rw e at f in cc
+          by_nine : (v : Bool) → leb 9 n ≡ v → suc n ≤ 9
+          by_nine true g = absurd (let h : 10 ≤ n = j (leb-true 9 n g) in ten n (omega (arith, h, k)) f)
+          by_nine false g = omega (arith, leb-false 9 n g)
+
+  sign_good : (x : Sign) (m : Mark) (S : Stack) → StackGood r S → Accepts S 11 → ((gap : Bool) → Placed m.gap (signs_stick x gap) S) → Fine r (Steps.sign r x m S)
+  sign_good x m (op_of (joined a o n us) S) g c t =
+      decide (λ y. Fine r y) (is_power o) (roomy (room r (suc (nests (op_of (joined a o n us) S)))) (Ok (operand (op_of (joined a o n (more_signs us m x)) S)))) (Steps.raise r x m (op_of (joined a o n us) S))
+        (λ e. fine_roomy (suc (nests (op_of (joined a o n us) S))) (Ok (operand (op_of (joined a o n (more_signs us m x)) S)))
+          (λ l. ((g.0, (g.1.0, e, g.1.2), g.2, g.3, omega (arith, l), g.5), (λ gap sticky. tt), omega (arith, level_most o))))
+        (λ e. raise_good x m (op_of (joined a o n us) S) g (not_power o e) t)
+  sign_good x m (op_of (signed n y) S) g c t = raise_good x m (op_of (signed n y) S) g (omega arith) t
+  sign_good x m (op_of (from a n) S) g c t = raise_good x m (op_of (from a n) S) g (omega arith) t
+  sign_good x m (op_of (stepped a n b o) S) g c t = raise_good x m (op_of (stepped a n b o) S) g (omega arith) t
+  sign_good x m (lead_of l spot) g c t = raise_good x m (lead_of l spot) g c t
+  sign_good x m (inner_of i spot) g c t = raise_good x m (inner_of i spot) g c t
+  sign_good x m (paren_of o S) g c t = raise_good x m (paren_of o S) g c t
+  sign_good x m (args_of f o q S) g c t = raise_good x m (args_of f o q S) g c t
+  sign_good x m (brace_of o q S) g c t = raise_good x m (brace_of o q S) g c t
+  sign_good x m (row_of o rs q S) g c t = raise_good x m (row_of o rs q S) g c t
+  sign_good x m (outputs_of o q site b) g c t = absurd c
+  sign_good x m (goal_of h site b) g c t = raise_good x m (goal_of h site b) g tt t
+
+  additive_good : (ad : Option Additive) (m : Mark) (S : Stack) → StackGood r S → Accepts S 11 → ((sticky : Bool) → Placed m.gap sticky S) → Fine r (Steps.sign_of r ad m S)
+  additive_good None m S g c t = tt
+  additive_good (Some a) m S g c t = sign_good (additive a) m S g c (λ gap. t (not gap))
+
+  -- ---- outputs that frames stand for
+
+  -- outputs that a row's elements are
+  abbrev pub OutputsOk : ℕ → Outgoing → Outputs → ℕ → Type 0
+  OutputsOk n p os h = SoundOutputs os × (run_of os ≡ 0) × (outputs_height os ≤ max (outs_height p) (outgoing_run p + h))
+
+  set_sound : (p : Outgoing) (gap : Bool) (o : Output) (os : Outputs) → set_out p gap o ≡ Some os → (output_mark o).gap ≡ gap → OutsSound p → SoundOutput o → SoundOutputs os
+  set_sound fresh_outs gap o os h e s t = let f : only o ≡ os = cc in subst (λ x. SoundOutputs x) f t
+  set_sound (behind_outs x (written c)) gap o os h e s t = let f : beside x (written c) o ≡ os = cc in subst (λ y. SoundOutputs y) f (s, tt, t)
+  set_sound (behind_outs x space) true o os h e s t = let f : beside x space o ≡ os = cc in subst (λ y. SoundOutputs y) f (s, e, t)
+  set_sound (behind_outs x space) false o os h e s t = cc
+
+  set_height : (p : Outgoing) (gap : Bool) (o : Output) (os : Outputs) → set_out p gap o ≡ Some os → outputs_height os ≤ max (outs_height p) (outgoing_run p + output_height o)
+  set_height fresh_outs gap o os h = let f : only o ≡ os = cc in subst (λ x. outputs_height x ≤ max 0 (0 + output_height o)) f (omega (arith, le-max_right 0 (0 + output_height o)))
+  set_height (behind_outs x (written c)) gap o os h = let f : beside x (written c) o ≡ os = cc in subst (λ y. outputs_height y ≤ max (outputs_height x) (0 + output_height o)) f (omega arith)
+  set_height (behind_outs x space) true o os h = let f : beside x space o ≡ os = cc in subst (λ y. outputs_height y ≤ max (outputs_height x) (run_of x + output_height o)) f (omega arith)
+  set_height (behind_outs x space) false o os h = cc
+
+  set_run : (p : Outgoing) (gap : Bool) (o : Output) (os : Outputs) → set_out p gap o ≡ Some os → run_of os ≡ skips o (outgoing_run p)
+  set_run fresh_outs gap o os h = let f : only o ≡ os = cc in subst (λ x. run_of x ≡ skips o 0) f refl
+  set_run (behind_outs x (written c)) gap o os h = let f : beside x (written c) o ≡ os = cc in subst (λ y. run_of y ≡ skips o 0) f refl
+  set_run (behind_outs x space) true o os h = let f : beside x space o ≡ os = cc in subst (λ y. run_of y ≡ skips o (run_of x)) f refl
+  set_run (behind_outs x space) false o os h = cc
+
+  -- a target that an element is
+  tgt_sound : (e : Ex) (t : Tgt) → tgt_of e ≡ Some t → SoundEx true false e → SoundTgt true t × (tgt_height t ≤ height e)
+  tgt_sound (bare (head (alone n))) t h s = let f : entire n ≡ t = cc in subst (λ x. SoundTgt true x × (tgt_height x ≤ 0)) f (tt, omega arith)
+  tgt_sound (bare (head (dotted i m n))) t h s = cc
+  tgt_sound (bare (braced n m e z)) t h s = let f : in_braces n m e z ≡ t = cc in subst (λ x. SoundTgt true x × (tgt_height x ≤ suc (height e))) f (s, omega arith)
+  tgt_sound (call (head (alone n)) m a z) t h s = let f : indexed n m a z ≡ t = cc in subst (λ x. SoundTgt true x × (tgt_height x ≤ max 0 (suc (args_height a)))) f ((s.1, s.2), le-max_right 0 (suc (args_height a)))
+  tgt_sound (call (head (dotted i j n)) m a z) t h s = cc
+  tgt_sound (call (braced n i e j) m a z) t h s = cc
+  tgt_sound (number m z) t h s = cc
+  tgt_sound e t h s = cc
+
+  out_of_tgt : (p : Outgoing) (x : Option Tgt) (e : Ex) (os : Outputs) → tgt_of e ≡ x → set_tgt p x ≡ Some os → OutsSound p → SoundEx true false e → OutputsOk 0 p os (height e)
+  out_of_tgt p None e os g h s d = cc
+  out_of_tgt p (Some t) e os g h s d =
+      let f : SoundTgt true t × (tgt_height t ≤ height e) = tgt_sound e t g d in
+      let hh : outputs_height os ≤ max (outs_height p) (outgoing_run p + tgt_height t) = set_height p (tgt_mark t).gap (to t) os h in
+      (set_sound p (tgt_mark t).gap (to t) os h refl s f.0, set_run p (tgt_mark t).gap (to t) os h, omega (arith, hh, max_mono (outs_height p) (outgoing_run p + tgt_height t) (outgoing_run p + height e) (omega (arith, f.1))))
+    where
+      max_mono : (a b c : ℕ) → b ≤ c → max a b ≤ max a c
+      max_mono a b c h = let x : max a b + 0 ≤ max a c = max_room a b 0 (max a c) (omega (arith, le-max_left a c)) (omega (arith, le-max_right a c, h)) in omega (arith, x)
