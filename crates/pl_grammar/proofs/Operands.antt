@@ -273,3 +273,216 @@ module _ (r : Rules) where
     where
       max_mono : (a b c : ℕ) → b ≤ c → max a b ≤ max a c
       max_mono a b c h = let x : max a b + 0 ≤ max a c = max_room a b 0 (max a c) (omega (arith, le-max_left a c)) (omega (arith, le-max_right a c, h)) in omega (arith, x)
+
+  element_sound : (e : Ex) (p : Outgoing) (os : Outputs) → element_outputs p e ≡ Some os → OutsSound p → SoundEx true false e → OutputsOk 0 p os (height e)
+  element_sound (under (signed m tilde) e) p os h s d = passed (λ q f t. element_sound e q os f t d.3) (set_out p m.gap (skip m)) refl h
+    where
+      passed : ((q : Outgoing) → element_outputs q e ≡ Some os → OutsSound q → OutputsOk 0 q os (height e)) → (x : Option Outputs) → set_out p m.gap (skip m) ≡ x → pass x (λ q. element_outputs q e) ≡ Some os → OutputsOk 0 p os (max 1 (1 + height e))
+      passed ih None g f = cc
+      passed ih (Some xs) g f =
+          let i : OutputsOk 0 (behind_outs xs space) os (height e) = ih (behind_outs xs space) f (set_sound p m.gap (skip m) xs g refl s tt) in
+          let M : ℕ = max (outs_height p) (outgoing_run p + max 1 (1 + height e)) in
+          let x : outgoing_run p + max 1 (1 + height e) ≤ M = le-max_right (outs_height p) (outgoing_run p + max 1 (1 + height e)) in
+          let y : 1 + height e ≤ max 1 (1 + height e) = le-max_right 1 (1 + height e) in
+          let u : max (outs_height p) (outgoing_run p + 1) + 0 ≤ M = max_room (outs_height p) (outgoing_run p + 1) 0 M (omega (arith, le-max_left (outs_height p) (outgoing_run p + max 1 (1 + height e)))) (omega (arith, x, y)) in
+          let v : outputs_height xs ≤ max (outs_height p) (outgoing_run p + 1) = set_height p m.gap (skip m) xs g in
+          let z : max (outputs_height xs) (run_of xs + height e) + 0 ≤ M = max_room (outputs_height xs) (run_of xs + height e) 0 M (omega (arith, u, v)) (omega (arith, set_run p m.gap (skip m) xs g, x, y)) in
+          (i.0, i.1, omega (arith, i.2, z))
+  element_sound (under (signed m (additive a)) e) p os h s d = cc
+  element_sound (under (joined a o m us) e) p os h s d = cc
+  element_sound (under (from a m) e) p os h s d = cc
+  element_sound (under (stepped a m b n) e) p os h s d = cc
+  element_sound (bare c) p os h s d = out_of_tgt p (tgt_of (bare c)) (bare c) os refl h s d
+  element_sound (call c m a z) p os h s d = out_of_tgt p (tgt_of (call c m a z)) (call c m a z) os refl h s d
+  element_sound (number m z) p os h s d = cc
+  element_sound (chars m z) p os h s d = cc
+  element_sound (state e d' m) p os h s d = cc
+  element_sound (paren m e z) p os h s d = cc
+  element_sound (rows m rs z) p os h s d = cc
+  element_sound (rows_to m rs es t z) p os h s d = cc
+  element_sound (func m n) p os h s d = cc
+  element_sound (last m) p os h s d = cc
+  element_sound (transposed e m) p os h s d = cc
+
+  flat : (c : Comma) (n : ℕ) → n ≡ 0 → across c n ≡ 0
+  flat (written m) n h = refl
+  flat space n h = h
+
+  -- the outputs of a row's elements
+  abbrev pub RowOk : Outputs → ℕ → Type 0
+  RowOk os n = SoundOutputs os × (run_of os ≡ 0) × (outputs_height os ≤ n)
+
+  item_row : (i : Item) (p : Outgoing) (os : Outputs) (n : ℕ) → item_outputs p i ≡ Some os → OutsSound p → outgoing_run p ≡ 0 → SoundItem true false i → outs_height p ≤ n → item_height i ≤ n → RowOk os n
+  item_row (colon m) p os n h s z d x y = cc
+  item_row (value e) p os n h s z d x y =
+      let o : OutputsOk 0 p os (height e) = element_sound e p os h s d in
+      let v : max (outs_height p) (outgoing_run p + height e) + 0 ≤ n = max_room (outs_height p) (outgoing_run p + height e) 0 n (omega (arith, x)) (omega (arith, y, z)) in
+      (o.0, o.1, omega (arith, o.2, v))
+
+  pub row_sound : (es : Elements) (os : Outputs) → row_outputs es ≡ Some os → SoundElements true false es → RowOk os (elements_height es)
+  row_sound (one i) os h d = item_row i fresh_outs os (item_height i) h tt refl d (omega arith) (omega arith)
+  row_sound (also es c i) os h d = beyond (λ xs g. row_sound es xs g d.0) (row_outputs es) refl h
+    where
+      beyond : ((xs : Outputs) → row_outputs es ≡ Some xs → RowOk xs (elements_height es)) → (x : Option Outputs) → row_outputs es ≡ x → behind_all x c (λ p. item_outputs p i) ≡ Some os → RowOk os (max (elements_height es) (item_height i))
+      beyond ih None g f = cc
+      beyond ih (Some xs) g f =
+          let k : RowOk xs (elements_height es) = ih xs g in
+          item_row i (behind_outs xs c) os (max (elements_height es) (item_height i)) f k.0 (flat c (run_of xs) k.1) d.2 (omega (arith, k.2, le-max_left (elements_height es) (item_height i))) (omega (arith, le-max_right (elements_height es) (item_height i)))
+
+  -- the outputs that frames stand for
+  abbrev OutlistOk : Outlist → ℕ → Type 0
+  OutlistOk l n = OutsGood r l.outputs l.site l.block × (n ≡ outgoing_run l.outputs + suc (suc (site_nests l.site)))
+
+  as_outputs_good : (S : Stack) (l : Outlist) → as_outputs S ≡ Some l → StackGood r S → OutlistOk l (nests S)
+  as_outputs_good (row_of m no_rows p (goal_of shown site b)) l h g = by_pending (pending_outputs p) p refl h g.3 g.5
+    where
+      made : (q : Outgoing) → Steps.outlist m site b (Some q) ≡ Some l → OutsSound q → outgoing_run q ≡ 0 → outs_height q + suc (suc (site_nests site)) ≤ r.limit → OutlistOk l (suc (suc (site_nests site)))
+      made q f s z v =
+          let e : record { mark = m; outputs = q; site = site; block = b } ≡ l = cc in
+          subst (λ x. OutlistOk x (suc (suc (site_nests site)))) e ((g.0.0, g.0.1, s, v, omega (arith, z, g.4)), omega (arith, z))
+      by_row : (es : Elements) (c : Comma) (y : Option Outputs) → row_outputs es ≡ y → Steps.outlist m site b (pending_outputs (behind es c)) ≡ Some l → SoundElements true false es → elements_height es + suc (suc (site_nests site)) ≤ r.limit → OutlistOk l (suc (suc (site_nests site)))
+      by_row es c None e f s v = let bad : Steps.outlist m site b None ≡ Some l = rw e at f in cc
+      by_row es c (Some os) e f s v =
+          let k : RowOk os (elements_height es) = row_sound es os e s in
+          let f' : Steps.outlist m site b (Some (behind_outs os c)) ≡ Some l = rw e at f in
+          made (behind_outs os c) f' k.0 (flat c (run_of os) k.1) (omega (arith, v, k.2))
+      by_pending : (x : Option Outgoing) (q : Pending) → pending_outputs q ≡ x → Steps.outlist m site b (pending_outputs q) ≡ Some l → PendingRow false q → pending_height q + suc (suc (site_nests site)) ≤ r.limit → OutlistOk l (suc (suc (site_nests site)))
+      by_pending x fresh e f s v = made fresh_outs f tt refl v
+      by_pending x (behind es c) e f s v = by_row es c (row_outputs es) refl f s v
+  as_outputs_good (op_of (signed m tilde) S) l h g = by_below (λ x e. as_outputs_good S x e g.0) (as_outputs S) refl h
+    where
+      by_set : (x : Outlist) (y : Option Outputs) → OutlistOk x (nests S) → set_out x.outputs m.gap (skip m) ≡ y → Steps.skip_in m x y ≡ Some l → OutlistOk l (1 + nests S)
+      by_set x None i e f = cc
+      by_set x (Some os) i e f =
+          let e' : record { mark = x.mark; outputs = behind_outs os space; site = x.site; block = x.block } ≡ l = cc in
+          let n : ℕ = suc (suc (site_nests x.site)) in
+          let sn : run_of os ≡ suc (outgoing_run x.outputs) = set_run x.outputs m.gap (skip m) os e in
+          let v : max (outs_height x.outputs) (outgoing_run x.outputs + 1) + n ≤ r.limit = max_room (outs_height x.outputs) (outgoing_run x.outputs + 1) n r.limit i.0.3 (omega (arith, i.1, g.4)) in
+          subst (λ y. OutlistOk y (1 + nests S)) e' ((i.0.0, i.0.1, set_sound x.outputs m.gap (skip m) os e refl i.0.2 tt, omega (arith, set_height x.outputs m.gap (skip m) os e, v), omega (arith, sn, i.1, g.4)), omega (arith, sn, i.1))
+      by_below : ((x : Outlist) → as_outputs S ≡ Some x → OutlistOk x (nests S)) → (x : Option Outlist) → as_outputs S ≡ x → Steps.skip_onto m x ≡ Some l → OutlistOk l (1 + nests S)
+      by_below ih None e f = cc
+      by_below ih (Some x) e f = by_set x (set_out x.outputs m.gap (skip m)) (ih x e) refl f
+  as_outputs_good (row_of m (broken rs s) p S) l h g = cc
+  as_outputs_good (row_of m (filled rs es t s) p S) l h g = cc
+  as_outputs_good (row_of m no_rows p (goal_of (into t q) site b)) l h g = cc
+  as_outputs_good (row_of m no_rows p (goal_of (spread n os z q) site b)) l h g = cc
+  as_outputs_good (row_of m no_rows p (lead_of i spot)) l h g = cc
+  as_outputs_good (row_of m no_rows p (inner_of i spot)) l h g = cc
+  as_outputs_good (row_of m no_rows p (outputs_of n o site b)) l h g = cc
+  as_outputs_good (row_of m no_rows p (op_of o S)) l h g = cc
+  as_outputs_good (row_of m no_rows p (paren_of n S)) l h g = cc
+  as_outputs_good (row_of m no_rows p (args_of c n o S)) l h g = cc
+  as_outputs_good (row_of m no_rows p (brace_of n o S)) l h g = cc
+  as_outputs_good (row_of m no_rows p (row_of n rs o S)) l h g = cc
+  as_outputs_good (op_of (signed m (additive a)) S) l h g = cc
+  as_outputs_good (op_of (joined a o m us) S) l h g = cc
+  as_outputs_good (op_of (from a m) S) l h g = cc
+  as_outputs_good (op_of (stepped a m b n) S) l h g = cc
+  as_outputs_good (goal_of x site b) l h g = cc
+  as_outputs_good (lead_of i spot) l h g = cc
+  as_outputs_good (inner_of i spot) l h g = cc
+  as_outputs_good (outputs_of n o site b) l h g = cc
+  as_outputs_good (paren_of n S) l h g = cc
+  as_outputs_good (args_of c n o S) l h g = cc
+  as_outputs_good (brace_of n o S) l h g = cc
+
+  then_good : (S : Stack) (x : Option Outlist) (go : Mark → Outputs → Site → Block → State) → as_outputs S ≡ x → StackGood r S
+      → ((m : Mark) (os : Outputs) (c : Comma) (site : Site) (b : Block) → OutsGood r (behind_outs os c) site b → Good r (go m os site b)) → Fine r (Steps.outputs_then x go)
+  then_good S None go h g f = tt
+  then_good S (Some l) go h g f = by_outs l.outputs refl
+    where
+      by_outs : (o : Outgoing) → l.outputs ≡ o → Fine r (Steps.outputs_then (Some (record { mark = l.mark; outputs = o; site = l.site; block = l.block })) go)
+      by_outs fresh_outs e = tt
+      by_outs (behind_outs os c) e = let k : OutsGood r l.outputs l.site l.block = (as_outputs_good S l h g).0 in f l.mark os c l.site l.block (subst (λ y. OutsGood r y l.site l.block) e k)
+
+  comma_empty_good : (c : Mark) (S : Stack) → StackGood r S → Fine r (Steps.comma_empty c S)
+  comma_empty_good c (op_of p S) g = then_good (op_of p S) (as_outputs (op_of p S)) (λ m os site b. output m (behind_outs os (written c)) site b) refl g (λ m os x site b o. ((o.0, o.1, o.2, o.3, omega (arith, o.3)), (λ y. tt)))
+  comma_empty_good c (goal_of g site b) h = tt
+  comma_empty_good c (lead_of l spot) h = tt
+  comma_empty_good c (inner_of i spot) h = tt
+  comma_empty_good c (outputs_of o q site b) h = tt
+  comma_empty_good c (paren_of o S) h = tt
+  comma_empty_good c (args_of f o q S) h = tt
+  comma_empty_good c (brace_of o q S) h = tt
+  comma_empty_good c (row_of o rs q S) h = tt
+
+  square_row_good : (m : Mark) (rs : Rows) (p : Pending) (S : Stack) (z : Mark) → StackGood r (row_of m rs p S) → Fine r (Steps.square_row m rs p S z)
+  square_row_good m rs fresh S z g = ((g.0, g.2, g.1, omega (arith, g.4), g.6), omega arith)
+  square_row_good m rs (behind es (written c)) S z g = ((g.0, (g.2, g.3), g.1, omega (arith, max_room (rows_height rs) (elements_height es) (suc (nests S)) r.limit g.4 g.5), g.6), omega arith)
+  square_row_good m rs (behind es space) S z g = tt
+
+  square_empty_good : (z : Mark) (S : Stack) → StackGood r S → Fine r (Steps.square_empty z S)
+  square_empty_good z (row_of m rs p S) g = square_row_good m rs p S z g
+  square_empty_good z (op_of p S) g = then_good (op_of p S) (as_outputs (op_of p S)) (λ m os site b. outputs_shut m os z site b) refl g (λ m os x site b o. (o.0, o.1, o.2, o.3))
+  square_empty_good z (goal_of g site b) h = tt
+  square_empty_good z (lead_of l spot) h = tt
+  square_empty_good z (inner_of i spot) h = tt
+  square_empty_good z (outputs_of o q site b) h = tt
+  square_empty_good z (paren_of o S) h = tt
+  square_empty_good z (args_of f o q S) h = tt
+  square_empty_good z (brace_of o q S) h = tt
+
+  close_empty_good : (z : Mark) (S : Stack) → StackGood r S → Fine r (Steps.close_empty z S)
+  close_empty_good z (args_of c m fresh S) g = called_good c m no_args z S g.0 g.1 tt g.4 g.3 g.5
+  close_empty_good z (args_of c m (behind es x) S) g = tt
+  close_empty_good z (goal_of g site b) h = tt
+  close_empty_good z (lead_of l spot) h = tt
+  close_empty_good z (inner_of i spot) h = tt
+  close_empty_good z (outputs_of o q site b) h = tt
+  close_empty_good z (op_of p S) h = tt
+  close_empty_good z (paren_of o S) h = tt
+  close_empty_good z (brace_of o q S) h = tt
+  close_empty_good z (row_of o rs q S) h = tt
+
+  break_row_good : (m : Mark) (rs : Rows) (p : Pending) (S : Stack) (s : Sep) → IsRowBreak s.kind → StackGood r (row_of m rs p S) → Fine r (Steps.break_row m rs p S s)
+  break_row_good m rs fresh S s k g = ((g.0, g.1, (g.2, k), tt, g.4, omega (arith, g.4), g.6), (λ gap sticky. tt), tt)
+  break_row_good m rs (behind es (written c)) S s k g = ((g.0, g.1, (g.2, g.3, k), tt, max_room (rows_height rs) (elements_height es) (suc (nests S)) r.limit g.4 g.5, omega (arith, g.4), g.6), (λ gap sticky. tt), tt)
+  break_row_good m rs (behind es space) S s k g = tt
+
+  break_empty_good : (s : Sep) (S : Stack) → IsRowBreak s.kind → StackGood r S → Fine r (Steps.break_empty s S)
+  break_empty_good s (row_of m rs p S) k g = break_row_good m rs p S s k g
+  break_empty_good s (goal_of g site b) k h = tt
+  break_empty_good s (lead_of l spot) k h = tt
+  break_empty_good s (inner_of i spot) k h = tt
+  break_empty_good s (outputs_of o q site b) k h = tt
+  break_empty_good s (op_of p S) k h = tt
+  break_empty_good s (paren_of o S) k h = tt
+  break_empty_good s (args_of f o q S) k h = tt
+  break_empty_good s (brace_of o q S) k h = tt
+
+  colon_arg_good : (m : Mark) (S : Stack) → StackGood r S → Fine r (Steps.colon_arg m S)
+  colon_arg_good m (args_of f o q S) g = (g, tt)
+  colon_arg_good m (goal_of g site b) h = tt
+  colon_arg_good m (lead_of l spot) h = tt
+  colon_arg_good m (inner_of i spot) h = tt
+  colon_arg_good m (outputs_of o q site b) h = tt
+  colon_arg_good m (op_of p S) h = tt
+  colon_arg_good m (paren_of o S) h = tt
+  colon_arg_good m (brace_of o q S) h = tt
+  colon_arg_good m (row_of o rs q S) h = tt
+
+  -- ---- a word where an operand has to come
+
+  pub operand_good : (word : Word) (m : Mark) (S : Stack) → StackGood r S → Accepts S 11 → Enters word m S → Fine r (read_operand r word m S)
+  operand_good (w.Name n) m S g a e = ((g, tt, a, omega (arith, stack_room S g), e), omega arith)
+  operand_good (w.Chars cs) m S g a e = ((g, tt, a, omega (arith, stack_room S g), e), omega arith)
+  operand_good (w.Number z) m S g a e = ((g, tt, a, omega (arith, stack_room S g), e), omega arith)
+  operand_good (w.Binary o) m S g a e = additive_good (additive_of o) m S g a e
+  operand_good w.Not m S g a e = sign_good tilde m S g a (λ gap. e)
+  operand_good w.Quote m S g a e = tt
+  operand_good w.Equal m S g a e = tt
+  operand_good w.Colon m S g a e = colon_arg_good m S g
+  operand_good w.Comma m S g a e = comma_empty_good m S g
+  operand_good w.Semicolon m S g a e = break_empty_good (record { kind = semicolon; mark = m }) S tt g
+  operand_good w.LineEnd m S g a e = break_empty_good (record { kind = line; mark = m }) S tt g
+  operand_good w.Open m S g a e = fine_roomy (suc (nests S)) (Ok (operand (paren_of m S))) (λ l. ((g, a, l, e), (λ gap sticky. tt), tt))
+  operand_good w.Close m S g a e = close_empty_good m S g
+  operand_good w.OpenSquare m S g a e = fine_roomy (suc (nests S)) (Ok (operand (row_of m no_rows fresh S))) (λ l. ((g, a, tt, tt, omega (arith, l), omega (arith, l), e), (λ gap sticky. tt), tt))
+  operand_good w.CloseSquare m S g a e = square_empty_good m S g
+  operand_good w.OpenBrace m S g a e = tt
+  operand_good w.CloseBrace m S g a e = tt
+  operand_good w.At m S g a e = (g, a, e, stack_room S g)
+  operand_good w.Dot m S g a e = tt
+  operand_good (w.Key word) m S g a e =
+      decide (λ x. Fine r x) (Steps.end_word word && in_index S) (Ok (after (last m) S)) refused
+        (λ h. let i : in_index S ≡ true = (both_true (Steps.end_word word) (in_index S) h).1 in ((g, i, a, omega (arith, stack_room S g), e), omega arith)) (λ h. tt)
