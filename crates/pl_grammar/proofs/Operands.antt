@@ -254,20 +254,20 @@ module _ (r : Rules) where
   set_run (behind_outs x space) false o os h = cc
 
   -- a target that an element is
-  tgt_sound : (e : Ex) (t : Tgt) → tgt_of e ≡ Some t → SoundEx true false e → SoundTgt true t × (tgt_height t ≤ height e)
-  tgt_sound (bare (head (alone n))) t h s = let f : entire n ≡ t = cc in subst (λ x. SoundTgt true x × (tgt_height x ≤ 0)) f (tt, omega arith)
-  tgt_sound (bare (head (dotted i m n))) t h s = cc
-  tgt_sound (bare (braced n m e z)) t h s = let f : in_braces n m e z ≡ t = cc in subst (λ x. SoundTgt true x × (tgt_height x ≤ suc (height e))) f (s, omega arith)
-  tgt_sound (call (head (alone n)) m a z) t h s = let f : indexed n m a z ≡ t = cc in subst (λ x. SoundTgt true x × (tgt_height x ≤ max 0 (suc (args_height a)))) f ((s.1, s.2), le-max_right 0 (suc (args_height a)))
-  tgt_sound (call (head (dotted i j n)) m a z) t h s = cc
-  tgt_sound (call (braced n i e j) m a z) t h s = cc
-  tgt_sound (number m z) t h s = cc
-  tgt_sound e t h s = cc
+  pub tgt_sound : (row : Bool) (e : Ex) (t : Tgt) → tgt_of e ≡ Some t → SoundEx row false e → SoundTgt row t × (tgt_height t ≤ height e)
+  tgt_sound row (bare (head (alone n))) t h s = let f : entire n ≡ t = cc in subst (λ x. SoundTgt row x × (tgt_height x ≤ 0)) f (tt, omega arith)
+  tgt_sound row (bare (head (dotted i m n))) t h s = cc
+  tgt_sound row (bare (braced n m e z)) t h s = let f : in_braces n m e z ≡ t = cc in subst (λ x. SoundTgt row x × (tgt_height x ≤ suc (height e))) f (s, omega arith)
+  tgt_sound row (call (head (alone n)) m a z) t h s = let f : indexed n m a z ≡ t = cc in subst (λ x. SoundTgt row x × (tgt_height x ≤ max 0 (suc (args_height a)))) f ((s.1, s.2), le-max_right 0 (suc (args_height a)))
+  tgt_sound row (call (head (dotted i j n)) m a z) t h s = cc
+  tgt_sound row (call (braced n i e j) m a z) t h s = cc
+  tgt_sound row (number m z) t h s = cc
+  tgt_sound row e t h s = cc
 
   out_of_tgt : (p : Outgoing) (x : Option Tgt) (e : Ex) (os : Outputs) → tgt_of e ≡ x → set_tgt p x ≡ Some os → OutsSound p → SoundEx true false e → OutputsOk 0 p os (height e)
   out_of_tgt p None e os g h s d = cc
   out_of_tgt p (Some t) e os g h s d =
-      let f : SoundTgt true t × (tgt_height t ≤ height e) = tgt_sound e t g d in
+      let f : SoundTgt true t × (tgt_height t ≤ height e) = tgt_sound true e t g d in
       let hh : outputs_height os ≤ max (outs_height p) (outgoing_run p + tgt_height t) = set_height p (tgt_mark t).gap (to t) os h in
       (set_sound p (tgt_mark t).gap (to t) os h refl s f.0, set_run p (tgt_mark t).gap (to t) os h, omega (arith, hh, max_mono (outs_height p) (outgoing_run p + tgt_height t) (outgoing_run p + height e) (omega (arith, f.1))))
     where
