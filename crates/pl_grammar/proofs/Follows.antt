@@ -50,7 +50,7 @@ and_false : (x : Bool) → (x && false) ≡ false
 and_false true = refl
 and_false false = refl
 
-put_args : (p : Pending) (i : Item) → PendingArgs p → SoundItem false true i → SoundElements false true (put p i)
+pub put_args : (p : Pending) (i : Item) → PendingArgs p → SoundItem false true i → SoundElements false true (put p i)
 put_args fresh i h d = d
 put_args (behind es (written c)) i h d = (h.0, tt, d)
 put_args (behind es space) i h d = absurd h.1
@@ -60,7 +60,7 @@ put_row fresh e x m rs S h d q = d
 put_row (behind es (written c)) e x m rs S h d q = (h, tt, d)
 put_row (behind es space) e x m rs S h d q = (h, (refl, (q.0, q.1)), d)
 
-put_height : (p : Pending) (i : Item) (n l : ℕ) → pending_height p + n ≤ l → item_height i + n ≤ l → elements_height (put p i) + n ≤ l
+pub put_height : (p : Pending) (i : Item) (n l : ℕ) → pending_height p + n ≤ l → item_height i + n ≤ l → elements_height (put p i) + n ≤ l
 put_height fresh i n l h j = j
 put_height (behind es c) i n l h j = max_room (elements_height es) (item_height i) n l h j
 
