@@ -163,7 +163,7 @@ assign-under q p e (args_of c m o S) = refl
 assign-under q p e (brace_of n m S) = refl
 assign-under q p e (row_of m rs o S) = refl
 
-tear_on : (r : Rules) (p : Op) (e : Ex) (S : Stack) (a : Additive) (m : Mark) (ts : List Terminal)
+pub tear_on : (r : Rules) (p : Op) (e : Ex) (S : Stack) (a : Additive) (m : Mark) (ts : List Terminal)
     → (sticks_next ts ≡ false → 7 ≤ strength p) → run r (torn e a m (op_of p S)) ts ≡ run r (torn (under p e) a m S) ts
 tear_on r p e S a m [] h = refl
 tear_on r p e S a m (t ∷ ts) h = by_gap t.gap refl

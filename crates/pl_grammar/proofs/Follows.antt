@@ -273,7 +273,7 @@ module _ (r : Rules) where
   dot_good : (v : Bool) (m : Mark) (e : Ex) (S : Stack) → has_state e ≡ v → Fitting r e S → Fine r (if v then Ok (dot e m S) else refused)
   dot_good false m e S g h = tt
   dot_good true m (bare (head (alone n))) S g h = (h.0, h.2, h.4, h.3, tt)
-  dot_good true m (call (head (alone n)) i a z) S g h = (h.0, h.2, h.4, h.3, h.1)
+  dot_good true m (call (head (alone n)) i a z) S g h = (h.0, h.2, h.4, h.3, (refl, h.1))
   dot_good true m (bare (head (dotted x y z))) S g h = cc
   dot_good true m (bare (braced x y z u)) S g h = cc
   dot_good true m (call (head (dotted x y z)) i a u) S g h = cc

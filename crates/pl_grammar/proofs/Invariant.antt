@@ -103,7 +103,7 @@ module _ (r : Rules) where
 
   state_good : (e : Ex) (d : Mark) (n : Named) (S : Stack) → has_state e ≡ true → Good r (dot e d S) → AfterGood r (state e d n.mark) S
   state_good (bare (head (alone x))) d n S h g = ((g.0, (h, tt), g.1, g.3, g.2), omega arith)
-  state_good (call (head (alone x)) i a z) d n S h g = ((g.0, (h, g.4), g.1, g.3, g.2), omega arith)
+  state_good (call (head (alone x)) i a z) d n S h g = ((g.0, (h, g.4.1), g.1, g.3, g.2), omega arith)
   state_good (bare (head (dotted x y z))) d n S h g = cc
   state_good (bare (braced x y z u)) d n S h g = cc
   state_good (call (head (dotted x y z)) i a u) d n S h g = cc

@@ -24,7 +24,7 @@ use Rattle.pl_grammar.proofs.Keeping.{Tells, roomy_tells, retell, choose, put_wo
 
 -- ---- names
 
-same_lists : (a b : List ℕ) → pointwise nat_eq a b ≡ true → a ≡ b
+pub same_lists : (a b : List ℕ) → pointwise nat_eq a b ≡ true → a ≡ b
 same_lists [] [] h = refl
 same_lists [] (y ∷ ys) h = cc
 same_lists (x ∷ xs) [] h = cc

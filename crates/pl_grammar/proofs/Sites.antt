@@ -163,7 +163,7 @@ module _ (r : Rules) where
   -- a dot may stand behind it
   abbrev pub DotOn : Ex → Bool → Bool → Type 0
   DotOn (bare (head h)) row i = IsStem h
-  DotOn (call c m a z) row i = SoundEx row i (call c m a z)
+  DotOn (call c m a z) row i = (has_state (call c m a z) ≡ true) × SoundEx row i (call c m a z)
   DotOn e row i = ⊥
 
   abbrev pub TitlingGood : Top → Titling → Type 0
