@@ -109,7 +109,7 @@ lax_if v false f g h j = j refl
 pub tame_if : (v u : Bool) (s t : Step) → Tame v s → Tame v t → Tame v (if u then s else t)
 tame_if v u s t h j = pick (λ x. Tame v x) u s t h j
 
-reduced_open : (l : ℕ) (e : Ex) (S : Stack) → stack_open (reduce l e S).stack ≡ stack_open S
+pub reduced_open : (l : ℕ) (e : Ex) (S : Stack) → stack_open (reduce l e S).stack ≡ stack_open S
 reduced_open l e (goal_of g site b) = refl
 reduced_open l e (lead_of h spot) = refl
 reduced_open l e (inner_of i spot) = refl

@@ -196,11 +196,11 @@ apart_lax v e (paren_of o S) go h f' = lax_const v refused tt
 apart_lax v e (args_of d o q S) go h f' = lax_const v refused tt
 apart_lax v e (brace_of o q S) go h f' = lax_const v refused tt
 
-after_lax : (v : Bool) (word : Word) (m : Mark) (e : Ex) (S : Stack) → Stays v S → Lax v (λ r. read_after r word m e S)
+pub after_lax : (v : Bool) (word : Word) (m : Mark) (e : Ex) (S : Stack) → Stays v S → Lax v (λ r. read_after r word m e S)
 after_lax v word m e S h = lax_if v (Steps.begins_element word S && (in_row S && m.gap)) (λ r. Steps.apart (reduce 0 e S).operand (reduce 0 e S).stack (λ row. read_operand r word m row)) (λ r. go_on r word m e S)
   (λ q. apart_lax v (reduce 0 e S).operand (reduce 0 e S).stack (λ r row. read_operand r word m row) (stays_reduced v 0 e S h) (λ T i. operand_lax v word m T i)) (λ q. go_on_lax v word m e S h)
 
-untear_lax : (v : Bool) (e : Ex) (a : Additive) (n : Mark) (S : Stack) (word : Word) (m : Mark) → Stays v S → Lax v (λ r. Steps.untear r e a n S word m)
+pub untear_lax : (v : Bool) (e : Ex) (a : Additive) (n : Mark) (S : Stack) (word : Word) (m : Mark) → Stays v S → Lax v (λ r. Steps.untear r e a n S word m)
 untear_lax v e a n S word m h =
     let T : Stack = (reduce 7 e S).stack in
     let x : Ex = (reduce 7 e S).operand in
@@ -210,7 +210,7 @@ untear_lax v e a n S word m h =
 
 -- ---- names
 
-colon_tame : (v : Bool) (word : Word) (m c : Mark) (S : Stack) → Stays v S → Tame v (Steps.behind_colon word m c S)
+pub colon_tame : (v : Bool) (word : Word) (m c : Mark) (S : Stack) → Stays v S → Tame v (Steps.behind_colon word m c S)
 colon_tame v w.Comma m c (args_of f n p S) h = h
 colon_tame v w.Close m c (args_of f n p S) h = called_tame v f n (listed (put p (colon c))) m S h
 colon_tame v w.Comma m c (goal_of g site b) h = tt
@@ -248,7 +248,7 @@ colon_tame v w.At m c S h = tt
 colon_tame v w.Dot m c S h = tt
 colon_tame v (w.Key x) m c S h = tt
 
-at_tame : (v : Bool) (word : Word) (m a : Mark) (S : Stack) → Stays v S → Tame v (Steps.behind_at word m a S)
+pub at_tame : (v : Bool) (word : Word) (m a : Mark) (S : Stack) → Stays v S → Tame v (Steps.behind_at word m a S)
 at_tame v (w.Name n) m a S h = h
 at_tame v word m a S h = tt
 
@@ -262,17 +262,17 @@ longer_tame v (bare (head x)) d n S h = dot_or_tame v (dots (Rattle.pl_grammar.s
 longer_tame v (bare (braced x y z u)) d n S h = tt
 longer_tame v e d n S h = tt
 
-dot_tame : (v : Bool) (word : Word) (m : Mark) (e : Ex) (d : Mark) (S : Stack) → Stays v S → Tame v (Steps.behind_dot word m e d S)
+pub dot_tame : (v : Bool) (word : Word) (m : Mark) (e : Ex) (d : Mark) (S : Stack) → Stays v S → Tame v (Steps.behind_dot word m e d S)
 dot_tame v (w.Name n) m e d S h = tame_if v (is_state n) (if has_state e then Ok (after (state e d m) S) else refused) (Steps.longer e d (record { mark = m; text = n }) S) (tame_if v (has_state e) (Ok (after (state e d m) S)) refused h tt) (longer_tame v e d (record { mark = m; text = n }) S h)
 dot_tame v word m e d S h = tt
 
-stem_tame : (v : Bool) (word : Word) (m : Mark) (i : Head) (S : Stack) → Stays v S → Tame v (Steps.behind_stem word m i S)
+pub stem_tame : (v : Bool) (word : Word) (m : Mark) (i : Head) (S : Stack) → Stays v S → Tame v (Steps.behind_stem word m i S)
 stem_tame v w.Dot m i S h = h
 stem_tame v word m i S h = tt
 
 -- ---- outputs
 
-output_lax : (v : Bool) (word : Word) (m o : Mark) (p : Outgoing) (site : Site) (b : Block) → (v ≡ true → site_open site ≡ true) → Lax v (λ r. Steps.read_output r word m o p site b)
+pub output_lax : (v : Bool) (word : Word) (m o : Mark) (p : Outgoing) (site : Site) (b : Block) → (v ≡ true → site_open site ≡ true) → Lax v (λ r. Steps.read_output r word m o p site b)
 output_lax v (w.Name n) m o p site b h = lax_const v (Ok (output_read o p (to (entire (record { mark = m; text = n }))) site b)) h
 output_lax v w.Not m o p site b h = room_const v (suc (outgoing_run p + suc (suc (site_nests site)))) (output_read o p (skip m) site b) h
 output_lax v (w.Chars x) m o p site b h = lax_const v refused tt
@@ -309,7 +309,7 @@ output_brace_lax v m o p (skip i) site b h = lax_const v refused tt
 next_output_lax : (v : Bool) (word : Word) (m o : Mark) (os : Outputs) (site : Site) (b : Block) → (v ≡ true → site_open site ≡ true) → Lax v (λ r. Steps.next_output r word m o os site b)
 next_output_lax v word m o os site b h = lax_if v m.gap (λ r. Steps.read_output r word m o (behind_outs os space) site b) (λ r. refused) (λ q. output_lax v word m o (behind_outs os space) site b h) (λ q. lax_const v refused tt)
 
-behind_output_lax : (v : Bool) (word : Word) (m o : Mark) (p : Outgoing) (t : Output) (site : Site) (b : Block) → (v ≡ true → site_open site ≡ true) → Lax v (λ r. Steps.behind_output r word m o p t site b)
+pub behind_output_lax : (v : Bool) (word : Word) (m o : Mark) (p : Outgoing) (t : Output) (site : Site) (b : Block) → (v ≡ true → site_open site ≡ true) → Lax v (λ r. Steps.behind_output r word m o p t site b)
 behind_output_lax v w.Comma m o p t site b h = lax_const v (Ok (output o (behind_outs (put_out p t) (written m)) site b)) h
 behind_output_lax v w.CloseSquare m o p t site b h = lax_const v (Ok (outputs_shut o (put_out p t) m site b)) h
 behind_output_lax v w.Open m o p t site b h = lax_if v m.gap (λ r. refused) (λ r. Steps.output_list r m o p t site b) (λ q. lax_const v refused tt) (λ q. output_list_lax v m o p t site b h)
@@ -331,13 +331,13 @@ behind_output_lax v w.At m o p t site b h = next_output_lax v w.At m o (put_out 
 behind_output_lax v w.Dot m o p t site b h = next_output_lax v w.Dot m o (put_out p t) site b h
 behind_output_lax v (w.Key x) m o p t site b h = next_output_lax v (w.Key x) m o (put_out p t) site b h
 
-outputs_tame : (v : Bool) (word : Word) (m o : Mark) (os : Outputs) (z : Mark) (site : Site) (b : Block) → (v ≡ true → site_open site ≡ true) → Tame v (Steps.behind_outputs word m o os z site b)
+pub outputs_tame : (v : Bool) (word : Word) (m o : Mark) (os : Outputs) (z : Mark) (site : Site) (b : Block) → (v ≡ true → site_open site ≡ true) → Tame v (Steps.behind_outputs word m o os z site b)
 outputs_tame v w.Equal m o os z site b h = h
 outputs_tame v word m o os z site b h = tt
 
 -- ---- statements and headers
 
-on_sep_tame : (v : Bool) (word : Word) (m : Mark) (go : Sep → Step) → ((s : Sep) → Tame v (go s)) → Tame v (Steps.on_sep (Steps.sep_kind word) m go)
+pub on_sep_tame : (v : Bool) (word : Word) (m : Mark) (go : Sep → Step) → ((s : Sep) → Tame v (go s)) → Tame v (Steps.on_sep (Steps.sep_kind word) m go)
 on_sep_tame v word m go h = by_kind (Steps.sep_kind word)
   where
     by_kind : (x : Option SepKind) → Tame v (Steps.on_sep x m go)
@@ -391,23 +391,23 @@ begin_lax : (v : Bool) (word : Word) (m : Mark) (site : Site) (b : Block) → (v
 begin_lax v word m site b h = lax_if v (scene site).holds (λ r. roomy (room r (suc (site_nests site))) (read_operand r word m (goal_of shown site b))) (λ r. refused)
   (λ q. lax_roomy v (suc (site_nests site)) (λ r. read_operand r word m (goal_of shown site b)) (operand_lax v word m (goal_of shown site b) h)) (λ q. lax_const v refused tt)
 
-start_lax : (v : Bool) (word : Word) (m : Mark) (site : Site) (b : Block) → (is_end_word word ≡ true → v ≡ false) → (v ≡ true → site_open site ≡ true) → Lax v (λ r. Steps.read_start r word m site b)
+pub start_lax : (v : Bool) (word : Word) (m : Mark) (site : Site) (b : Block) → (is_end_word word ≡ true → v ≡ false) → (v ≡ true → site_open site ≡ true) → Lax v (λ r. Steps.read_start r word m site b)
 start_lax v w.Comma m site b i h = lax_const v (Ok (start site (blank b (record { kind = comma; mark = m })))) h
 start_lax v w.Semicolon m site b i h = lax_const v (Ok (start site (blank b (record { kind = semicolon; mark = m })))) h
 start_lax v w.LineEnd m site b i h = lax_const v (Ok (start site (blank b (record { kind = line; mark = m })))) h
 start_lax v (w.Key word) m site b i h = use_lax v (use_of word) word m site b refl i h
 start_lax v word m site b i h = begin_lax v word m site b h
 
-loop_tame : (v : Bool) (other : Word) (m : Mark) (word : Keyword) (o : Mark) (spot : Spot) → Tame v (Steps.behind_loop other m word o spot)
+pub loop_tame : (v : Bool) (other : Word) (m : Mark) (word : Keyword) (o : Mark) (spot : Spot) → Tame v (Steps.behind_loop other m word o spot)
 loop_tame v (w.Name n) m word o spot = λ q. refl
 loop_tame v w.Open m word o spot = λ q. refl
 loop_tame v other m word o spot = tt
 
-loop_in_tame : (v : Bool) (other : Word) (m : Mark) (word : Keyword) (o p : Mark) (spot : Spot) → Tame v (Steps.behind_loop_in other m word o p spot)
+pub loop_in_tame : (v : Bool) (other : Word) (m : Mark) (word : Keyword) (o p : Mark) (spot : Spot) → Tame v (Steps.behind_loop_in other m word o p spot)
 loop_in_tame v (w.Name n) m word o p spot = λ q. refl
 loop_in_tame v other m word o p spot = tt
 
-index_tame : (v : Bool) (other : Word) (q : Mark) (go : Mark → State) → is_open (go q) ≡ true → Tame v (Steps.behind_index other q go)
+pub index_tame : (v : Bool) (other : Word) (q : Mark) (go : Mark → State) → is_open (go q) ≡ true → Tame v (Steps.behind_index other q go)
 index_tame v w.Equal q go h = λ x. h
 index_tame v other q go h = tt
 
@@ -435,7 +435,7 @@ count_tame v o (no_value k.While m) spot = tt
 count_tame v o (upto l e) spot = tt
 count_tame v o (shut i e z) spot = tt
 
-ready_tame : (v : Bool) (word : Word) (m : Mark) (h : Heading) (spot : Spot) → Tame v (Steps.behind_heading word m h spot)
+pub ready_tame : (v : Bool) (word : Word) (m : Mark) (h : Heading) (spot : Spot) → Tame v (Steps.behind_heading word m h spot)
 ready_tame v w.Open m h spot = count_tame v m h spot
 ready_tame v (w.Name x) m h spot = on_sep_tame v (w.Name x) m (λ s. Ok (start (enter (headed h s) spot) empty)) (λ s q. enter_open (headed h s) spot)
 ready_tame v (w.Chars x) m h spot = on_sep_tame v (w.Chars x) m (λ s. Ok (start (enter (headed h s) spot) empty)) (λ s q. enter_open (headed h s) spot)
