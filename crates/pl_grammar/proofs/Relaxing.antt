@@ -54,6 +54,7 @@ pub record Lax (v : Bool) (f : Rules → Step) : Type 0 where
   pub bound : ℕ
   pub enough : (q : Rules) → bound ≤ q.limit → f q ≡ Err TooDeep → ⊥
   pub opens : (r : Rules) (next : State) → f r ≡ Ok next → v ≡ true → is_open next ≡ true
+  pub same : (r q : Rules) → r.limit ≡ q.limit → f r ≡ f q
 
 -- a step that no rule touches
 abbrev pub Tame : Bool → Step → Type 0
@@ -64,8 +65,8 @@ Tame v (Err TooDeep) = ⊥
 Tame v (Err FunctionTwice) = ⊥
 
 pub lax_const : (v : Bool) (s : Step) → Tame v s → Lax v (λ r. s)
-lax_const v (Ok next) h = record { relax = λ r q a. refl; bound = 0; enough = λ q l e. cc; opens = λ r x e f. let i : next ≡ x = cc in subst (λ y. is_open y ≡ true) i (h f) }
-lax_const v (Err Unexpected) h = record { relax = λ r q a. tt; bound = 0; enough = λ q l e. cc; opens = λ r x e f. cc }
+lax_const v (Ok next) h = record { relax = λ r q a. refl; bound = 0; enough = λ q l e. cc; opens = λ r x e f. let i : next ≡ x = cc in subst (λ y. is_open y ≡ true) i (h f); same = λ r q e. refl }
+lax_const v (Err Unexpected) h = record { relax = λ r q a. tt; bound = 0; enough = λ q l e. cc; opens = λ r x e f. cc; same = λ r q e. refl }
 lax_const v (Err MissingEnd) h = absurd h
 lax_const v (Err TooDeep) h = absurd h
 lax_const v (Err FunctionTwice) h = absurd h
@@ -100,6 +101,7 @@ lax_roomy v n f h = record {
   bound = max n h.bound;
   enough = λ q l e. roomy_enough (room q n) (f q) (le-leb n q.limit (omega (arith, l, le-max_left n h.bound))) (h.enough q (omega (arith, l, le-max_right n h.bound))) e;
   opens = λ r next e i. h.opens r next (roomy_opens (room r n) (f r) next e) i;
+  same = λ r q e. ap (λ x. roomy (nat_le n x) (f r)) e ∙ ap (λ s. roomy (room q n) s) (h.same r q e);
 }
 
 pub lax_if : (v u : Bool) (f g : Rules → Step) → (u ≡ true → Lax v f) → (u ≡ false → Lax v g) → Lax v (λ r. if u then f r else g r)

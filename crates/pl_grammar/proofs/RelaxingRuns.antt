@@ -44,6 +44,7 @@ pub record Yields (v : Bool) (f : Rules → Step) : Type 0 where
   pub bound : ℕ
   pub enough : (q : Rules) → bound ≤ q.limit → f q ≡ Err TooDeep → ⊥
   pub opens : (r : Rules) (next : State) → f r ≡ Ok next → v ≡ true → is_open next ≡ true
+  pub deep : (r q : Rules) → r.limit ≡ q.limit → f r ≡ Err TooDeep → f q ≡ Err TooDeep
 
 becomes : (q : Rules) (s t : Step) → Relates s t → Becomes q s t
 becomes q (Ok a) t h = h
@@ -53,7 +54,7 @@ becomes q (Err MissingEnd) t h = h
 becomes q (Err FunctionTwice) t h = absurd h
 
 yields : (v : Bool) (f : Rules → Step) → Lax v f → Yields v f
-yields v f h = record { relax = λ r q a. becomes q (f r) (f q) (h.relax r q a); bound = h.bound; enough = h.enough; opens = h.opens }
+yields v f h = record { relax = λ r q a. becomes q (f r) (f q) (h.relax r q a); bound = h.bound; enough = h.enough; opens = h.opens; deep = λ r q e i. sym (h.same r q e) ∙ i }
 
 tame_yields : (v : Bool) (s : Step) → Tame v s → Yields v (λ r. s)
 tame_yields v s h = yields v (λ r. s) (lax_const v s h)
@@ -89,6 +90,7 @@ unique_yields v text t st h = record {
   bound = 0;
   enough = λ q l e. never_deep (not q.twice && has_function text t) st e;
   opens = λ r next e i. subst (λ y. is_open y ≡ true) (only_ok (not r.twice && has_function text t) st next e) (h i);
+  deep = λ r q e i. absurd (never_deep (not r.twice && has_function text t) st i);
 }
 
 unless_yields : (v : Bool) (text : List ℕ) (t : Top) (s : Step) → Tame v s → Yields v (λ r. Steps.unless_twice r text t s)
@@ -278,6 +280,10 @@ room_for st t = (step_yields false st t.word (mark_of t) (λ e. refl) (λ e. cc)
 pub roomy_step : (q : Rules) (st : State) (t : Terminal) → room_for st t ≤ q.limit → step q st t ≡ Err TooDeep → ⊥
 unfolding room_for
 roomy_step q st t l e = (step_yields false st t.word (mark_of t) (λ e. refl) (λ e. cc)).enough q l e
+
+-- a name that may stand twice makes no room
+pub still_deep : (r q : Rules) (st : State) (t : Terminal) → r.limit ≡ q.limit → step r st t ≡ Err TooDeep → step q st t ≡ Err TooDeep
+still_deep r q st t l e = (step_yields false st t.word (mark_of t) (λ f. refl) (λ f. cc)).deep r q l e
 
 -- a terminal other than `end` leaves open what is
 stays_open : (r : Rules) (st next : State) (t : Terminal) → is_end_word t.word ≡ false → is_open st ≡ true → step r st t ≡ Ok next → is_open next ≡ true
