@@ -293,3 +293,98 @@ some_answer limit ts = by_run (run (strict limit) beginning ts) refl
 
 pub never_both : (limit : ℕ) (ts : List Terminal) (program : Program) (at : ℕ) (kind : FaultKind) → Parses (strict limit) ts program → ParseFault limit ts at kind → ⊥
 never_both limit ts program at kind x f = f.unfinished program x
+
+-- ---- one fault
+
+-- a name that stands twice is no want of room
+still_twice : (limit more : ℕ) (st : State) (t : Terminal) → limit ≤ more → step (strict limit) st t ≡ Err FunctionTwice → step (strict more) st t ≡ Err FunctionTwice
+still_twice limit more st t l e = by_step (step (strict more) st t) refl
+  where
+    by_step : (s : Step) → step (strict more) st t ≡ s → step (strict more) st t ≡ Err FunctionTwice
+    by_step (Err FunctionTwice) f = f
+    by_step (Ok next) f = let x : Becomes (strict more) (Err FunctionTwice) (Ok next) = rw (e, f) at (relaxed (strict limit) (strict more) st t (l, λ h. h)) in let bad : false ≡ true = x in cc
+    by_step (Err TooDeep) f = let x : Becomes (strict more) (Err FunctionTwice) (Err TooDeep) = rw (e, f) at (relaxed (strict limit) (strict more) st t (l, λ h. h)) in absurd x
+    by_step (Err MissingEnd) f = let x : Becomes (strict more) (Err FunctionTwice) (Err MissingEnd) = rw (e, f) at (relaxed (strict limit) (strict more) st t (l, λ h. h)) in absurd x
+    by_step (Err Unexpected) f = let x : Becomes (strict more) (Err FunctionTwice) (Err Unexpected) = rw (e, f) at (relaxed (strict limit) (strict more) st t (l, λ h. h)) in absurd x
+
+-- what more room takes and what a second name takes are not one terminal
+exclusive : (limit more : ℕ) (pre : List Terminal) (next : State) (t : Terminal) (k : FaultKind) → walk (strict limit) beginning pre ≡ Ok next → step (strict limit) next t ≡ Err k
+    → Begins (strict more) (pre ++ t ∷ []) → Begins (double_rules limit) (pre ++ t ∷ []) → ⊥
+exclusive limit more pre next t TooDeep h e b c =
+    no_begin (double_rules limit) pre next t TooDeep (walk_relaxed (strict limit) (double_rules limit) pre beginning next (omega arith, λ q. refl) h) (still_deep (strict limit) (double_rules limit) next t refl e) c
+exclusive limit more pre next t FunctionTwice h e b c =
+    let m : ℕ = max limit more in
+    no_begin (strict m) pre next t FunctionTwice (walk_relaxed (strict limit) (strict m) pre beginning next (le-max_left limit more, λ q. q) h) (still_twice limit m next t (le-max_left limit more) e)
+      (begins_relaxed (strict more) (strict m) (pre ++ t ∷ []) (le-max_right limit more, λ q. q) b)
+exclusive limit more pre next t MissingEnd h e b c = no_missing (strict limit) next t e
+exclusive limit more pre next t Unexpected h e b c =
+    no_begin (double_rules limit) pre next t Unexpected (walk_relaxed (strict limit) (double_rules limit) pre beginning next (omega arith, λ q. refl) h) (never limit (double_rules limit) next t (omega arith) e) c
+
+cut_at : (n m : ℕ) (ts : List Terminal) → n ≤ m → (rest : List Terminal) × (take m ts ≡ take n ts ++ rest)
+cut_at zero m ts l = (take m ts, refl)
+cut_at (suc n) zero ts l = absurd (omega (arith, l))
+cut_at (suc n) (suc m) [] l = ([], refl)
+cut_at (suc n) (suc m) (t ∷ ts) l = let c : (rest : List Terminal) × (take m ts ≡ take n ts ++ rest) = cut_at n m ts (omega (arith, l)) in (c.0, ap (λ x. t ∷ x) c.1)
+
+not_before : (limit : ℕ) (ts : List Terminal) (n m : ℕ) (k j : FaultKind) → ParseFault limit ts n k → ParseFault limit ts m j → n < m → ⊥
+not_before limit ts n m k j a b l =
+    let c : (rest : List Terminal) × (take m ts ≡ take (suc n) ts ++ rest) = cut_at (suc n) m ts l in
+    a.stopped (omega (arith, l, b.within)) (begins_cut (strict limit) (take (suc n) ts) c.0 (subst (λ x. Begins (strict limit) x) c.1 b.begun))
+
+one_place : (limit : ℕ) (ts : List Terminal) (n m : ℕ) (k j : FaultKind) → ParseFault limit ts n k → ParseFault limit ts m j → n ≡ m
+one_place limit ts n m k j a b = omega (arith, by_less n m (λ l. not_before limit ts n m k j a b l), by_less m n (λ l. not_before limit ts m n j k b a l))
+  where
+    by_less : (x y : ℕ) → (x < y → ⊥) → y ≤ x
+    by_less x y h = by_order (Rattle.std.specs.Prelude.leb y x) refl
+      where
+        by_order : (v : Bool) → Rattle.std.specs.Prelude.leb y x ≡ v → y ≤ x
+        by_order true e = Rattle.std.proofs.lemmas.Bool.leb-true y x e
+        by_order false e = absurd (h (Rattle.std.proofs.lemmas.Bool.leb-false y x e))
+
+-- room and second names, at one place of the terminals
+apart_at : (limit more : ℕ) (ts : List Terminal) (n : ℕ) (f : Refusal) → run (strict limit) beginning ts ≡ Err f → n ≡ length ts - f.left → n < length ts
+    → Begins (strict more) (take (suc n) ts) → Begins (double_rules limit) (take (suc n) ts) → ⊥
+apart_at limit more ts n f h e l b c =
+    let k : Halt (strict limit) beginning ts f = halts (strict limit) ts beginning f h in by_post k.pre k.post k.next k.split k.reached k.stops
+  where
+    by_post : (pre post : List Terminal) (next : State) → ts ≡ pre ++ post → walk (strict limit) beginning pre ≡ Ok next → HaltsAt (strict limit) next post f → ⊥
+    by_post pre [] next s w i = let z : f.left ≡ 0 = ap (λ x. x.left) i in absurd (omega (arith, z, e, l))
+    by_post pre (t ∷ rest) next s w i =
+        let len : length ts ≡ length pre + suc (length rest) = ap length s ∙ length-append pre (t ∷ rest) in
+        let at : n ≡ length pre = omega (arith, len, e, i.1) in
+        let cut : take (suc n) ts ≡ pre ++ t ∷ [] = ap (λ x. take (suc x) ts) at ∙ ap (λ x. take (suc (length pre)) x) s ∙ cut_one pre t rest in
+        exclusive limit more pre next t f.kind w i.0 (subst (λ x. Begins (strict more) x) cut b) (subst (λ x. Begins (double_rules limit) x) cut c)
+
+both_ends : (limit : ℕ) (ts : List Terminal) → WantsEnd (strict limit) ts → EndsSo (strict limit) ts → ⊥
+both_ends limit ts h x = let a : has_end x.more ≡ true = h x.more x.program x.parses in let bad : true ≡ false = sym a ∙ x.endless in cc
+
+one_kind : (limit : ℕ) (ts : List Terminal) (n : ℕ) (f : Refusal) (k j : FaultKind) → run (strict limit) beginning ts ≡ Err f → n ≡ length ts - f.left → Explains limit k ts n → Explains limit j ts n → k ≡ j
+one_kind limit ts n f TooDeep TooDeep h e a b = refl
+one_kind limit ts n f FunctionTwice FunctionTwice h e a b = refl
+one_kind limit ts n f MissingEnd MissingEnd h e a b = refl
+one_kind limit ts n f Unexpected Unexpected h e a b = refl
+one_kind limit ts n f TooDeep FunctionTwice h e a b = absurd (apart_at limit a.1.0 ts n f h e a.0 a.1.1 b.1)
+one_kind limit ts n f FunctionTwice TooDeep h e a b = absurd (apart_at limit b.1.0 ts n f h e b.0 b.1.1 a.1)
+one_kind limit ts n f TooDeep MissingEnd h e a b = absurd (omega (arith, a.0, b.0))
+one_kind limit ts n f MissingEnd TooDeep h e a b = absurd (omega (arith, a.0, b.0))
+one_kind limit ts n f FunctionTwice MissingEnd h e a b = absurd (omega (arith, a.0, b.0))
+one_kind limit ts n f MissingEnd FunctionTwice h e a b = absurd (omega (arith, a.0, b.0))
+one_kind limit ts n f TooDeep Unexpected h e a b = absurd (b.0 a.0 a.1.0 (begins_relaxed (strict a.1.0) (double_rules a.1.0) (take (suc n) ts) (omega arith, λ q. refl) a.1.1))
+one_kind limit ts n f Unexpected TooDeep h e a b = absurd (a.0 b.0 b.1.0 (begins_relaxed (strict b.1.0) (double_rules b.1.0) (take (suc n) ts) (omega arith, λ q. refl) b.1.1))
+one_kind limit ts n f FunctionTwice Unexpected h e a b = absurd (b.0 a.0 limit a.1)
+one_kind limit ts n f Unexpected FunctionTwice h e a b = absurd (a.0 b.0 limit b.1)
+one_kind limit ts n f MissingEnd Unexpected h e a b = absurd (both_ends limit ts a.1 (b.1 a.0))
+one_kind limit ts n f Unexpected MissingEnd h e a b = absurd (both_ends limit ts b.1 (a.1 b.0))
+
+-- two faults of one list of terminals are one
+pub one_fault : (limit : ℕ) (ts : List Terminal) (at other : ℕ) (kind otherwise : FaultKind) → ParseFault limit ts at kind → ParseFault limit ts other otherwise → (at ≡ other) × (kind ≡ otherwise)
+one_fault limit ts at other kind otherwise a b = by_run (run (strict limit) beginning ts) refl
+  where
+    same : at ≡ other
+    same = one_place limit ts at other kind otherwise a b
+    by_run : (x : Answer) → run (strict limit) beginning ts ≡ x → (at ≡ other) × (kind ≡ otherwise)
+    by_run (Ok p) e = absurd (a.unfinished (program_of p) (found (strict limit) ts p e))
+    by_run (Err f) e =
+        let g : ParseFault limit ts (length ts - f.left) f.kind = faulted limit ts f e in
+        let i : at ≡ length ts - f.left = one_place limit ts at (length ts - f.left) kind f.kind a g in
+        (same, one_kind limit ts at f kind otherwise e i a.why (subst (λ n. Explains limit otherwise ts n) (sym same) b.why))
