@@ -13,9 +13,11 @@
 #![tactic(auto)]
 
 mod fault;
+mod laws;
 mod owner;
 mod terminal;
 
 pub use fault::FaultKind;
+pub use laws::{machine_reads, one_answer};
 pub use owner::Owner;
 pub use terminal::{Keyword, Terminal, Word};
