@@ -1,5 +1,5 @@
 -- What the laws about the machine share: tests, room, and what may follow an operand.
-use Rattle.std.proofs.Common.{◌≡◌, ◌∙◌, ℕ, suc, zero, ◌+◌, ◌≤◌, Bool, true, false, not, ◌&&◌, ◌||◌, if◌then◌else◌, Option, Some, None, List, [], ◌∷◌, length, Ok, Err, refl, ap, sym, arith}
+use Rattle.std.proofs.Common.{◌≡◌, ℕ, suc, ◌+◌, ◌≤◌, Bool, true, false, not, ◌&&◌, Option, Some, None, List, [], ◌∷◌, length, Ok, refl, arith}
 use Rattle.std.specs.Prelude.{nat_le, is_some}
 use Rattle.std.specs.Prelude.{max}
 use Rattle.std.proofs.Math.Nat.{le-max_left, le-max_right}
@@ -9,13 +9,12 @@ use Rattle.pl_syntax.specs.declared.expr.Bin.TheVariants as bin
 use Rattle.pl_grammar.specs.declared.terminal.Terminal.{Terminal}
 use Rattle.pl_grammar.specs.declared.terminal.Word.{Word}
 use Rattle.pl_grammar.specs.declared.terminal.Word.TheVariants as w
-use Rattle.pl_grammar.specs.declared.terminal.Keyword.{Keyword}
-use Rattle.pl_grammar.specs.Words.{Mark, term, mark_of, Additive, plus, minus, bin_of, additive_of, level}
+use Rattle.pl_grammar.specs.Words.{Mark, term, mark_of, Additive, additive_of, level}
 use Rattle.pl_grammar.specs.Derivations.{Ex, under, Op, joined, signed, from, stepped, shown, into, spread}
 use Rattle.pl_grammar.specs.Sound.{strength, wants}
 use Rattle.pl_grammar.specs.Programs.{Rules}
-use Rattle.pl_grammar.specs.Machine.{Stack, goal_of, lead_of, inner_of, outputs_of, op_of, paren_of, args_of, brace_of, row_of, State, operand, after, torn, nests, in_row}
-use Rattle.pl_grammar.specs.Steps.{Step, Answer, refused, roomy, room, reduce, onward, run, assign, apart}
+use Rattle.pl_grammar.specs.Machine.{Stack, goal_of, lead_of, inner_of, outputs_of, op_of, paren_of, args_of, brace_of, row_of, State, after, torn, nests, in_row}
+use Rattle.pl_grammar.specs.Steps.{refused, roomy, room, reduce, onward, run, assign}
 
 -- ---- tests
 

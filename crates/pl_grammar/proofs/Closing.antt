@@ -1,37 +1,29 @@
 -- Each good state has terminals that complete it to a program, without a further `end` where none is open.
-use Rattle.std.proofs.Common.{◌≡◌, ◌∙◌, ℕ, suc, ◌+◌, Bool, true, false, not, ◌&&◌, if◌then◌else◌, Option, Some, None, List, [], ◌∷◌, length, Ok, Err, refl, ap, sym, subst, arith, ◌≤◌}
-use Rattle.std.specs.Prelude.{nat_le, nat_eq, leb, codes, max, is_some}
-use Rattle.std.proofs.Math.Nat.{le-max_left, le-max_right, max-eq_left, max-eq_right}
+use Rattle.std.proofs.Common.{◌≡◌, ◌∙◌, ℕ, suc, ◌+◌, Bool, true, false, not, ◌&&◌, if◌then◌else◌, List, [], ◌∷◌, length, Ok, refl, arith, ◌≤◌}
+use Rattle.std.specs.Prelude.{nat_eq, codes}
 use Rattle.std.specs.Cmp.{first_so, second_so}
-use Rattle.std.specs.Cmp.Lexicographic.{pointwise}
-use Rattle.std.proofs.lemmas.Bool.{leb-true, leb-false}
-use Rattle.pl_syntax.specs.declared.expr.Bin.{Bin}
 use Rattle.pl_grammar.specs.declared.terminal.Terminal.{Terminal}
-use Rattle.pl_grammar.specs.declared.terminal.Word.{Word}
 use Rattle.pl_grammar.specs.declared.terminal.Word.TheVariants as w
 use Rattle.pl_grammar.specs.declared.terminal.Keyword.{Keyword}
 use Rattle.pl_grammar.specs.declared.terminal.Keyword.TheVariants as k
-use Rattle.pl_grammar.specs.Words.{Mark, term, mark_of, Named, named, Additive, bin_of, Sign, additive, tilde, sign_word, additive_of, level, is_power, SepKind, comma, semicolon, line, Sep, sep_word, Use, tests, loops, direct, plain, leaves, ends, defines, unused, use_of, is_link, follows, Dots, whole, stem, neither, dots, is_state}
-use Rattle.pl_grammar.specs.Derivations.{Head, alone, dotted, Signs, no_signs, more_signs, Comma, written, space, Trail, no_trail, trail, Ex, number, chars, bare, call, state, paren, rows, rows_to, func, last, under, transposed, Op, joined, signed, from, stepped, Callee, head, braced, Args, no_args, listed, Elements, one, also, Item, value, colon, Rows, no_rows, broken, filled, Tgt, entire, indexed, in_braces, Output, to, skip, Outputs, only, beside, Goal, shown, into, spread, Lead, test, each, Inner, each_in, bound, workers, Heading, upto, shut, no_value, Part, headed, unheaded, Smt, simple, delete, leave, compound, Block, empty, blank, statement, Opened, Param, taken, ignored, Params, Listing, no_params, params, Outs, no_outs, single, several, Given, no_list, given, Title, title, fun, Top, script, define, spaced, Prog, whole_of, unended}
-use Rattle.pl_grammar.specs.Trees.{head_mark, mark, op_mark, callee_mark, tgt_mark}
-use Rattle.pl_grammar.specs.Nesting.{count, weight, height, op_height, callee_height, args_height, elements_height, item_height, rows_height, tgt_height, output_height, skips, across, run_of, outputs_height, goal_height, inner_height, heading_height, part_height, smt_height, block_height, opened_height, fun_height, top_height, prog_height}
-use Rattle.pl_grammar.specs.Sound.{IsStem, IsHead, has_state, strength, wants, tightness, signs_stick, sticks, op_sticks, IsEven, IsTight, Leads, IsApart, signs_fit, IsRowBreak, IsSpaced, SoundEx, SoundOp, SoundCallee, SoundArgs, SoundElements, SoundItem, SoundRows, SoundTgt, SoundOutput, output_mark, IsOutputApart, SoundOutputs, SoundGoal, is_nothing, deletes, Scene, outermost, inside, may, SoundLead, SoundInner, SoundHeading, SoundPart, lead_word, inner_word, heading_word, part_word, opened_word, SoundSmt, SoundBlock, SoundOpened, IsNamed, AreNamed, ListsNames, SoundOuts, title_name, fun_name, has_function, SoundTitle, SoundFun, IsBehind, SoundTop, SoundProg}
+use Rattle.pl_grammar.specs.Words.{Mark, term, Named, Additive, additive, line, Sep, whole, stem, neither, dots, is_state}
+use Rattle.pl_grammar.specs.Derivations.{Head, alone, dotted, space, no_trail, Ex, number, bare, call, state, paren, rows_to, func, under, signed, Callee, head, braced, Args, listed, value, colon, entire, indexed, in_braces, Output, to, Outputs, spread, Lead, each, Inner, each_in, Heading, upto, shut, headed, Smt, simple, compound, Block, empty, statement, taken, Params, Listing, params, Outs, single, several, no_list, given, Title, title, fun, Top, script, define, spaced, Prog, whole_of}
+use Rattle.pl_grammar.specs.Sound.{has_state, strength, tightness, fun_name, has_function}
 use Rattle.pl_grammar.specs.Programs.{Rules}
-use Rattle.pl_grammar.specs.Machine.{Pending, fresh, behind, Outgoing, fresh_outs, behind_outs, Waiting, fresh_params, behind_params, put, put_out, put_param, Site, main, body, within, Spot, here, linked, Stack, goal_of, lead_of, inner_of, outputs_of, op_of, paren_of, args_of, brace_of, row_of, Titling, begun_title, worded, outs_of, out_of, outs_shut, naming, entitled, params_of, param_of, titled, State, start, finished, operand, after, coloned, torn, at_sign, stemmed, dot, output, output_read, outputs_shut, loop, loop_in, index, index_in, ready, titling, between, spot_site, site_nests, outgoing_run, scene, enter, nests, in_row, in_index, beginning}
-use Rattle.pl_grammar.specs.Steps
-use Rattle.pl_grammar.specs.Steps.{Step, Held, roomy, room, refused, reduce, run, step, onward, Answer, callee_tgt, tgt_of, set_out, set_tgt, pass, element_outputs, item_outputs, behind_all, row_outputs, pending_outputs, Outlist, as_outputs, called, embraced, read_operand, go_on, read_after, settle, ended}
+use Rattle.pl_grammar.specs.Machine.{behind, Outgoing, put, put_out, put_param, Site, main, body, within, Spot, Stack, goal_of, lead_of, inner_of, outputs_of, op_of, paren_of, args_of, brace_of, row_of, Titling, begun_title, worded, outs_of, out_of, outs_shut, naming, entitled, params_of, param_of, titled, State, start, finished, operand, after, coloned, torn, at_sign, stemmed, dot, output, output_read, outputs_shut, loop, loop_in, index, index_in, ready, titling, between, enter, in_row}
+use Rattle.pl_grammar.specs.Steps.{Step, run, step, called, embraced, settle}
 use Rattle.pl_grammar.specs.Programs.{is_end_word, has_end}
-use Rattle.pl_grammar.specs.Machine.{is_open, site_open, stack_open}
+use Rattle.pl_grammar.specs.Machine.{is_open, stack_open}
 use Rattle.std.specs.Prelude.{replicate, ℤ, pos, ◌++◌}
 use Rattle.std.proofs.lemmas.List.{length-replicate}
 use Rattle.pl_grammar.specs.Words.{same, dotted_names}
 use Rattle.pl_grammar.specs.Trees.{head_text}
 use Rattle.std.specs.List
 use Rattle.std.specs.Cmp.Lexicographic.{as_long}
-use Rattle.pl_grammar.proofs.Basics.{sticks_next, Stops, absorb, tear_on, level_most, level_jumps, strength_most, strength_wants, Accepts, accepts_more, additive_level}
-use Rattle.pl_grammar.proofs.Reading.{Weak, plain_call, plain_brace, power_not_additive, too_weak}
+use Rattle.pl_grammar.proofs.Basics.{sticks_next, Stops, absorb, tear_on, Accepts}
+use Rattle.pl_grammar.proofs.Reading.{plain_call, plain_brace}
 use Rattle.pl_grammar.proofs.Kept.{same_lists}
-use Rattle.pl_grammar.proofs.Sites.{Placed, Free, Led, IsWritten, PendingArgs, PendingRow, pending_height, OutsSound, outs_height, IsNextOut, WaitingNames, AloneBehind, ListOn, BraceOn, Unique, TopGood, SiteGood, BlockGood, SpotGood, Fits, spot_room, OutsGood, StackGood, Fitting, AfterGood, IsList, DotOn, TitlingGood, Good, Fine}
+use Rattle.pl_grammar.proofs.Sites.{ListOn, BraceOn, StackGood, IsList, Good}
 
 -- a mark of no place, with white space or without
 abbrev blot : Mark
@@ -98,9 +90,9 @@ module _ (r : Rules) where
 
   close_spread : (m : Mark) (os : Outputs) (z : Mark) (site : Site) (b : Block) → Closes (outputs_shut m os z site b)
   close_spread m os z site b = by_step (outputs_shut m os z site b) (operand (goal_of (spread m os z blot) site b)) (term w.Equal blot) refl refl (λ h. h)
-    (by_step (operand (goal_of (spread m os z blot) site b)) (after (number blot zero_z) (goal_of (spread m os z blot) site b)) (term (w.Number zero_z) blot) refl refl (λ h. h)
+      (by_step (operand (goal_of (spread m os z blot) site b)) (after (number blot zero_z) (goal_of (spread m os z blot) site b)) (term (w.Number zero_z) blot) refl refl (λ h. h)
       (by_step (after (number blot zero_z) (goal_of (spread m os z blot) site b)) (start site (statement b (simple (spread m os z blot) (number blot zero_z)) brk)) (term w.LineEnd blot) refl refl (λ h. h)
-        (close_start site (statement b (simple (spread m os z blot) (number blot zero_z)) brk))))
+      (close_start site (statement b (simple (spread m os z blot) (number blot zero_z)) brk))))
 
   close_output : (m : Mark) (p : Outgoing) (o : Output) (site : Site) (b : Block) → Closes (output_read m p o site b)
   close_output m p o site b = by_step (output_read m p o site b) (outputs_shut m (put_out p o) blot site b) (term w.CloseSquare blot) refl refl (λ h. h) (close_spread m (put_out p o) blot site b)
@@ -209,6 +201,7 @@ module _ (r : Rules) where
       by_stem : (v : Bool) → same (codes "parallel.pool") text ≡ v → (if v then stem else neither) ≡ stem → codes "parallel.pool" ≡ text
       by_stem true e f = same_lists (codes "parallel.pool") text e
       by_stem false e f = cc
+
       by_whole : (v : Bool) → (if v then whole else (if same (codes "parallel.pool") text then stem else neither)) ≡ stem → codes "parallel.pool" ≡ text
       by_whole true f = cc
       by_whole false f = by_stem (same (codes "parallel.pool") text) refl f
@@ -259,11 +252,11 @@ module _ (r : Rules) where
 
   close_lead : (l : Lead) (spot : Spot) → Closes (operand (lead_of l spot))
   close_lead l spot = by_step (operand (lead_of l spot)) (after zero_ex (lead_of l spot)) (term (w.Number zero_z) blot) refl refl (λ h. cc)
-    (by_step (after zero_ex (lead_of l spot)) (start (enter (headed (upto l zero_ex) brk) spot) empty) (term w.LineEnd blot) refl refl (λ h. cc) (close_start (enter (headed (upto l zero_ex) brk) spot) empty))
+      (by_step (after zero_ex (lead_of l spot)) (start (enter (headed (upto l zero_ex) brk) spot) empty) (term w.LineEnd blot) refl refl (λ h. cc) (close_start (enter (headed (upto l zero_ex) brk) spot) empty))
 
   close_inner : (i : Inner) (spot : Spot) → Closes (operand (inner_of i spot))
   close_inner i spot = by_step (operand (inner_of i spot)) (after zero_ex (inner_of i spot)) (term (w.Number zero_z) blot) refl refl (λ h. cc)
-    (by_step (after zero_ex (inner_of i spot)) (ready (shut i zero_ex blot) spot) (term w.Close blot) refl refl (λ h. cc) (close_ready (shut i zero_ex blot) spot))
+      (by_step (after zero_ex (inner_of i spot)) (ready (shut i zero_ex blot) spot) (term w.Close blot) refl refl (λ h. cc) (close_ready (shut i zero_ex blot) spot))
 
   close_index : (word : Keyword) (m : Mark) (n : Named) (spot : Spot) → Closes (index word m n spot)
   close_index word m n spot = by_step (index word m n spot) (operand (lead_of (each word m n blot) spot)) (term w.Equal blot) refl refl (λ h. cc) (close_lead (each word m n blot) spot)

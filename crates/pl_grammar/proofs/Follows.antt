@@ -1,30 +1,26 @@
 -- A terminal where an operand has come leads to a good state.
-use Rattle.std.proofs.Common.{◌≡◌, ◌∙◌, ℕ, suc, ◌+◌, Bool, true, false, not, ◌&&◌, if◌then◌else◌, Option, Some, None, List, [], ◌∷◌, length, Ok, Err, refl, ap, sym, subst, arith, ◌≤◌}
-use Rattle.std.specs.Prelude.{nat_le, nat_eq, leb, codes, max, is_some}
-use Rattle.std.proofs.Math.Nat.{le-max_left, le-max_right, max-eq_left, max-eq_right}
-use Rattle.std.specs.Cmp.{first_so, second_so}
-use Rattle.std.specs.Cmp.Lexicographic.{pointwise}
-use Rattle.std.proofs.lemmas.Bool.{leb-true, leb-false}
+use Rattle.std.proofs.Common.{◌≡◌, ℕ, suc, ◌+◌, Bool, true, false, ◌&&◌, if◌then◌else◌, Option, Some, None, Ok, refl, arith, ◌≤◌}
+use Rattle.std.specs.Prelude.{max, is_some}
+use Rattle.std.proofs.Math.Nat.{le-max_right}
 use Rattle.pl_syntax.specs.declared.expr.Bin.{Bin}
 use Rattle.pl_syntax.specs.declared.expr.Bin.TheVariants as bin
-use Rattle.pl_grammar.specs.declared.terminal.Terminal.{Terminal}
 use Rattle.pl_grammar.specs.declared.terminal.Word.{Word}
 use Rattle.pl_grammar.specs.declared.terminal.Word.TheVariants as w
 use Rattle.pl_grammar.specs.declared.terminal.Keyword.{Keyword}
 use Rattle.pl_grammar.specs.declared.terminal.Keyword.TheVariants as k
 use Rattle.pl_grammar.specs.Words.{Mark, term, mark_of, Named, named, Additive, bin_of, Sign, additive, tilde, sign_word, additive_of, level, is_power, SepKind, comma, semicolon, line, Sep, sep_word, Use, tests, loops, direct, plain, leaves, ends, defines, unused, use_of, is_link, follows, Dots, whole, stem, neither, dots, is_state}
-use Rattle.pl_grammar.specs.Derivations.{Head, alone, dotted, Signs, no_signs, more_signs, Comma, written, space, Trail, no_trail, trail, Ex, number, chars, bare, call, state, paren, rows, rows_to, func, last, under, transposed, Op, joined, signed, from, stepped, Callee, head, braced, Args, no_args, listed, Elements, one, also, Item, value, colon, Rows, no_rows, broken, filled, Tgt, entire, indexed, in_braces, Output, to, skip, Outputs, only, beside, Goal, shown, into, spread, Lead, test, each, Inner, each_in, bound, workers, Heading, upto, shut, no_value, Part, headed, unheaded, Smt, simple, delete, leave, compound, Block, empty, blank, statement, Opened, Param, taken, ignored, Params, Listing, no_params, params, Outs, no_outs, single, several, Given, no_list, given, Title, title, fun, Top, script, define, spaced, Prog, whole_of, unended}
-use Rattle.pl_grammar.specs.Trees.{head_mark, mark, op_mark, callee_mark, tgt_mark}
-use Rattle.pl_grammar.specs.Nesting.{count, weight, height, op_height, callee_height, args_height, elements_height, item_height, rows_height, tgt_height, output_height, skips, across, run_of, outputs_height, goal_height, inner_height, heading_height, part_height, smt_height, block_height, opened_height, fun_height, top_height, prog_height}
-use Rattle.pl_grammar.specs.Sound.{IsStem, IsHead, has_state, strength, wants, tightness, signs_stick, sticks, op_sticks, IsEven, IsTight, Leads, IsApart, signs_fit, IsRowBreak, IsSpaced, SoundEx, SoundOp, SoundCallee, SoundArgs, SoundElements, SoundItem, SoundRows, SoundTgt, SoundOutput, output_mark, IsOutputApart, SoundOutputs, SoundGoal, is_nothing, deletes, Scene, outermost, inside, may, SoundLead, SoundInner, SoundHeading, SoundPart, lead_word, inner_word, heading_word, part_word, opened_word, SoundSmt, SoundBlock, SoundOpened, IsNamed, AreNamed, ListsNames, SoundOuts, title_name, fun_name, has_function, SoundTitle, SoundFun, IsBehind, SoundTop, SoundProg}
+use Rattle.pl_grammar.specs.Derivations.{alone, dotted, no_signs, written, space, no_trail, trail, Ex, number, bare, call, rows, rows_to, transposed, joined, signed, from, stepped, Callee, head, braced, listed, Elements, Item, value, Rows, no_rows, broken, filled, Tgt, entire, indexed, in_braces, Outputs, Goal, shown, into, spread, each_in, bound, workers, upto, Part, headed, Block, empty}
+use Rattle.pl_grammar.specs.Trees.{mark, callee_mark}
+use Rattle.pl_grammar.specs.Nesting.{height, args_height, elements_height, item_height, rows_height, tgt_height, outputs_height, goal_height, inner_height, part_height, smt_height, block_height, opened_height}
+use Rattle.pl_grammar.specs.Sound.{has_state, tightness, sticks, IsTight, IsRowBreak, SoundEx, SoundElements, SoundItem, SoundTgt, SoundGoal, Scene, SoundPart, part_word, SoundSmt}
 use Rattle.pl_grammar.specs.Programs.{Rules}
-use Rattle.pl_grammar.specs.Machine.{Pending, fresh, behind, Outgoing, fresh_outs, behind_outs, Waiting, fresh_params, behind_params, put, put_out, put_param, Site, main, body, within, Spot, here, linked, Stack, goal_of, lead_of, inner_of, outputs_of, op_of, paren_of, args_of, brace_of, row_of, Titling, begun_title, worded, outs_of, out_of, outs_shut, naming, entitled, params_of, param_of, titled, State, start, finished, operand, after, coloned, torn, at_sign, stemmed, dot, output, output_read, outputs_shut, loop, loop_in, index, index_in, ready, titling, between, spot_site, site_nests, outgoing_run, scene, enter, nests, in_row, in_index, beginning}
+use Rattle.pl_grammar.specs.Machine.{Pending, fresh, behind, put, Site, Spot, here, linked, Stack, goal_of, lead_of, inner_of, outputs_of, op_of, paren_of, args_of, brace_of, row_of, operand, after, torn, dot, site_nests, scene, enter, nests, in_row, in_index}
 use Rattle.pl_grammar.specs.Steps
 use Rattle.pl_grammar.specs.Steps.{Step, Held, roomy, room, refused, reduce, run, step, onward, Answer, callee_tgt, tgt_of, set_out, set_tgt, pass, element_outputs, item_outputs, behind_all, row_outputs, pending_outputs, Outlist, as_outputs, called, embraced, read_operand, go_on, read_after, settle, ended}
-use Rattle.pl_grammar.proofs.Basics.{level_most, level_jumps, strength_most, strength_wants, Accepts, accepts_more, additive_level}
-use Rattle.pl_grammar.proofs.Reading.{Weak, plain_call, plain_brace, power_not_additive, too_weak}
-use Rattle.pl_grammar.proofs.Operands.{max_room, decide, both_true, there_is, fine_roomy, stack_room, accepts_at, accepts_all, under_fits, Left, reduce_good, Enters, enters_free, called_good, embraced_good, tgt_sound, RowOk, row_sound, operand_good}
-use Rattle.pl_grammar.proofs.Sites.{Placed, Free, Led, IsWritten, PendingArgs, PendingRow, pending_height, OutsSound, outs_height, IsNextOut, WaitingNames, AloneBehind, ListOn, BraceOn, Unique, TopGood, SiteGood, BlockGood, SpotGood, Fits, spot_room, OutsGood, StackGood, Fitting, AfterGood, IsList, DotOn, TitlingGood, Good, Fine}
+use Rattle.pl_grammar.proofs.Basics.{level_most, Accepts}
+use Rattle.pl_grammar.proofs.Reading.{Weak}
+use Rattle.pl_grammar.proofs.Operands.{max_room, decide, both_true, fine_roomy, accepts_at, Left, reduce_good, Enters, called_good, embraced_good, tgt_sound, RowOk, row_sound, operand_good}
+use Rattle.pl_grammar.proofs.Sites.{Placed, PendingArgs, PendingRow, pending_height, ListOn, BraceOn, BlockGood, SpotGood, Fits, spot_room, StackGood, Fitting, AfterGood, Good, Fine}
 
 level_gap : (o : Bin) → suc (level o) ≤ 7 → suc (level o) ≤ 6
 level_gap bin.OrElse h = omega (arith, h)
@@ -91,7 +87,7 @@ module _ (r : Rules) where
 
   join_good : (e : Ex) (S : Stack) (o : Bin) (m : Mark) → Fitting r e S → level o ≤ tightness e → Weak S (level o) → (in_row S && (is_some (additive_of o) && m.gap)) ≡ false → Fine r (Steps.join r e S o m)
   join_good e S o m h t v n = fine_roomy r (suc (height e + nests S)) (Ok (operand (op_of (joined e o m no_signs) S)))
-    (λ l. ((h.0, (t, refl, h.1), accepts_at r S (tightness e) (level o) h.2 v, omega (arith, l), omega (arith, l), h.4), (λ gap sticky q. let bad : false ≡ true = rw n at q in cc), omega (arith, level_most o)))
+      (λ l. ((h.0, (t, refl, h.1), accepts_at r S (tightness e) (level o) h.2 v, omega (arith, l), omega (arith, l), h.4), (λ gap sticky q. let bad : false ≡ true = rw n at q in cc), omega (arith, level_most o)))
 
   operator_good : (o : Bin) (ad : Option Additive) (m : Mark) (e : Ex) (S : Stack) → additive_of o ≡ ad → AfterGood r e S → Fine r (Steps.operator r o ad m e S)
   operator_good o None m e S a h =
@@ -99,9 +95,9 @@ module _ (r : Rules) where
       join_good (reduce (level o) e S).operand (reduce (level o) e S).stack o m R.0 R.1 R.2 (rw a (and_false (in_row (reduce (level o) e S).stack)))
   operator_good o (Some d) m e S a h =
       decide (λ x. Fine r x) (in_row S && m.gap) (Steps.tear r e d m S (reduce 0 e S).stack) (Steps.join r (reduce (level o) e S).operand (reduce (level o) e S).stack o m)
-        (λ q. let b : (in_row S ≡ true) × (m.gap ≡ true) = both_true (in_row S) m.gap q in fine_roomy r (suc (nests (reduce 0 e S).stack)) (Ok (torn e d m S)) (λ l. (h, b.0, b.1, l)))
-        (λ q. let R : Left r (level o) (in_row S) (reduce (level o) e S) = reduce_good r (level o) e S h.0 (omega (arith, h.1, level_most o)) in
-              join_good (reduce (level o) e S).operand (reduce (level o) e S).stack o m R.0 R.1 R.2 (rw (a, R.3) q))
+      (λ q. let b : (in_row S ≡ true) × (m.gap ≡ true) = both_true (in_row S) m.gap q in fine_roomy r (suc (nests (reduce 0 e S).stack)) (Ok (torn e d m S)) (λ l. (h, b.0, b.1, l)))
+      (λ q. let R : Left r (level o) (in_row S) (reduce (level o) e S) = reduce_good r (level o) e S h.0 (omega (arith, h.1, level_most o)) in
+      join_good (reduce (level o) e S).operand (reduce (level o) e S).stack o m R.0 R.1 R.2 (rw (a, R.3) q))
 
   transpose_good : (m : Mark) (e : Ex) (S : Stack) → Fitting r e S → 10 ≤ tightness e → Weak S 10 → Fine r (Steps.transpose r m e S)
   transpose_good m e S h t v = fine_roomy r (suc (height e + nests S)) (Ok (after (transposed e m) S)) (λ l. ((h.0, (t, h.1), accepts_at r S (tightness e) 10 h.2 v, omega (arith, l), h.4), omega arith))
@@ -320,10 +316,10 @@ module _ (r : Rules) where
   after_good word m e S h =
       let R : Left r 0 (in_row S) (reduce 0 e S) = reduce_good r 0 e S h.0 (omega arith) in
       decide (λ x. Fine r x) (Steps.begins_element word S && (in_row S && m.gap)) (Steps.apart (reduce 0 e S).operand (reduce 0 e S).stack (λ row. read_operand r word m row)) (go_on r word m e S)
-        (λ q. let b : (Steps.begins_element word S ≡ true) × ((in_row S && m.gap) ≡ true) = both_true (Steps.begins_element word S) (in_row S && m.gap) q in
-              apart_good (reduce 0 e S).operand (reduce 0 e S).stack (λ row. read_operand r word m row) R.0
-                (λ o rs es T g n. operand_good r word m (row_of o rs (behind es space) T) g tt (enters_row word m o rs es T S b.0 (both_true (in_row S) m.gap b.1).1)))
-        (λ q. go_on_good word m e S h (λ b. let x : (true && (in_row S && m.gap)) ≡ false = rw b at q in x))
+      (λ q. let b : (Steps.begins_element word S ≡ true) × ((in_row S && m.gap) ≡ true) = both_true (Steps.begins_element word S) (in_row S && m.gap) q in
+      apart_good (reduce 0 e S).operand (reduce 0 e S).stack (λ row. read_operand r word m row) R.0
+      (λ o rs es T g n. operand_good r word m (row_of o rs (behind es space) T) g tt (enters_row word m o rs es T S b.0 (both_true (in_row S) m.gap b.1).1)))
+      (λ q. go_on_good word m e S h (λ b. let x : (true && (in_row S && m.gap)) ≡ false = rw b at q in x))
 
   enters_sum : (word : Word) (m : Mark) (e : Ex) (o : Bin) (n : Mark) (S : Stack) → m.gap ≡ true → Enters r word m (op_of (joined e o n no_signs) S)
   enters_sum (w.Binary x) m e o n S g = λ sticky q. g
@@ -346,8 +342,8 @@ module _ (r : Rules) where
       let x : Ex = (reduce 7 e S).operand in
       let T : Stack = (reduce 7 e S).stack in
       decide (λ y. Fine r y) m.gap (roomy (room r (suc (height x + nests T))) (read_operand r word m (op_of (joined x (bin_of a) n no_signs) T))) (Steps.apart (reduce 0 e S).operand (reduce 0 e S).stack (λ row. read_operand r word m (op_of (signed n (additive a)) row)))
-        (λ g. fine_roomy r (suc (height x + nests T)) (read_operand r word m (op_of (joined x (bin_of a) n no_signs) T))
-          (λ l. operand_good r word m (op_of (joined x (bin_of a) n no_signs) T)
-            (R.0.0, (omega (arith, R.1, seven a), refl, R.0.1), accepts_at r T (tightness x) (level (bin_of a)) R.0.2 (rw (seven a) R.2), omega (arith, l), omega (arith, l), R.0.4) (omega (arith, seven a)) (enters_sum word m x (bin_of a) n T g)))
-        (λ g. apart_good (reduce 0 e S).operand (reduce 0 e S).stack (λ row. read_operand r word m (op_of (signed n (additive a)) row)) Q.0
-          (λ o rs es U u v. operand_good r word m (op_of (signed n (additive a)) (row_of o rs (behind es space) U)) (u, tt, tt, omega (arith, h.3, v), omega (arith, h.3, v), tt) (omega arith) (enters_sign word m n a o rs es U g h.2)))
+      (λ g. fine_roomy r (suc (height x + nests T)) (read_operand r word m (op_of (joined x (bin_of a) n no_signs) T))
+      (λ l. operand_good r word m (op_of (joined x (bin_of a) n no_signs) T)
+      (R.0.0, (omega (arith, R.1, seven a), refl, R.0.1), accepts_at r T (tightness x) (level (bin_of a)) R.0.2 (rw (seven a) R.2), omega (arith, l), omega (arith, l), R.0.4) (omega (arith, seven a)) (enters_sum word m x (bin_of a) n T g)))
+      (λ g. apart_good (reduce 0 e S).operand (reduce 0 e S).stack (λ row. read_operand r word m (op_of (signed n (additive a)) row)) Q.0
+      (λ o rs es U u v. operand_good r word m (op_of (signed n (additive a)) (row_of o rs (behind es space) U)) (u, tt, tt, omega (arith, h.3, v), omega (arith, h.3, v), tt) (omega arith) (enters_sign word m n a o rs es U g h.2)))

@@ -1,11 +1,11 @@
 -- The first terminal of an expression: its mark, and that it begins an element of a row.
-use Rattle.std.proofs.Common.{◌≡◌, ◌∙◌, ℕ, Bool, true, false, not, ◌&&◌, Option, Some, None, List, [], ◌∷◌, refl, ap, sym}
-use Rattle.std.specs.Prelude.{is_some, codes}
+use Rattle.std.proofs.Common.{◌≡◌, ◌∙◌, Bool, true, false, not, List, [], ◌∷◌, refl}
+use Rattle.std.specs.Prelude.{codes}
 use Rattle.pl_grammar.specs.declared.terminal.Terminal.{Terminal}
 use Rattle.pl_grammar.specs.declared.terminal.Word.{Word}
 use Rattle.pl_grammar.specs.declared.terminal.Word.TheVariants as w
 use Rattle.pl_grammar.specs.declared.terminal.Keyword.TheVariants as k
-use Rattle.pl_grammar.specs.Words.{Mark, term, named, Additive, plus, minus, additive, tilde, bin_of, sign_word, additive_of}
+use Rattle.pl_grammar.specs.Words.{Mark, term, named, Additive, additive, tilde, bin_of}
 use Rattle.pl_grammar.specs.Derivations.{Head, alone, dotted, Ex, number, chars, bare, call, state, paren, rows, rows_to, func, last, under, transposed, Op, joined, signed, from, stepped, Callee, head, braced}
 use Rattle.pl_grammar.specs.Spelling.{head_words, ex, op, callee, args, row_words, elements, trail_words, signs}
 use Rattle.pl_grammar.specs.Trees.{head_mark, mark, op_mark, callee_mark}

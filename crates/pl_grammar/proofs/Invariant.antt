@@ -1,31 +1,25 @@
 -- Each step leads from a good state to a good one, and so a run that ends well has read a sound program.
-use Rattle.std.proofs.Common.{◌≡◌, ◌∙◌, ℕ, suc, ◌+◌, Bool, true, false, not, ◌&&◌, if◌then◌else◌, Option, Some, None, List, [], ◌∷◌, length, Ok, Err, refl, ap, sym, subst, arith, ◌≤◌}
-use Rattle.std.specs.Prelude.{nat_le, nat_eq, leb, codes, max, is_some}
-use Rattle.std.proofs.Math.Nat.{le-max_left, le-max_right, max-eq_left, max-eq_right}
-use Rattle.std.specs.Cmp.{first_so, second_so}
-use Rattle.std.specs.Cmp.Lexicographic.{pointwise}
-use Rattle.std.proofs.lemmas.Bool.{leb-true, leb-false}
-use Rattle.pl_syntax.specs.declared.expr.Bin.{Bin}
+use Rattle.std.proofs.Common.{◌≡◌, ℕ, suc, ◌+◌, true, false, not, ◌&&◌, if◌then◌else◌, Option, Some, None, List, [], ◌∷◌, length, Ok, Err, refl, subst, arith, ◌≤◌}
+use Rattle.std.specs.Prelude.{max}
 use Rattle.pl_grammar.specs.declared.fault.FaultKind.TheVariants.{FunctionTwice}
 use Rattle.pl_grammar.specs.declared.terminal.Terminal.{Terminal}
 use Rattle.pl_grammar.specs.declared.terminal.Word.{Word}
 use Rattle.pl_grammar.specs.declared.terminal.Word.TheVariants as w
 use Rattle.pl_grammar.specs.declared.terminal.Keyword.{Keyword}
 use Rattle.pl_grammar.specs.declared.terminal.Keyword.TheVariants as k
-use Rattle.pl_grammar.specs.Words.{Mark, term, mark_of, Named, named, Additive, bin_of, Sign, additive, tilde, sign_word, additive_of, level, is_power, SepKind, comma, semicolon, line, Sep, sep_word, Use, tests, loops, direct, plain, leaves, ends, defines, unused, use_of, is_link, follows, Dots, whole, stem, neither, dots, is_state}
-use Rattle.pl_grammar.specs.Derivations.{Head, alone, dotted, Signs, no_signs, more_signs, Comma, written, space, Trail, no_trail, trail, Ex, number, chars, bare, call, state, paren, rows, rows_to, func, last, under, transposed, Op, joined, signed, from, stepped, Callee, head, braced, Args, no_args, listed, Elements, one, also, Item, value, colon, Rows, no_rows, broken, filled, Tgt, entire, indexed, in_braces, Output, to, skip, Outputs, only, beside, Goal, shown, into, spread, Lead, test, each, Inner, each_in, bound, workers, Heading, upto, shut, no_value, Part, headed, unheaded, Smt, simple, delete, leave, compound, Block, empty, blank, statement, Opened, Param, taken, ignored, Params, Listing, no_params, params, Outs, no_outs, single, several, Given, no_list, given, Title, title, fun, Top, script, define, spaced, Prog, whole_of, unended}
+use Rattle.pl_grammar.specs.Words.{Mark, mark_of, Named, SepKind, Sep, Use, tests, loops, direct, plain, leaves, ends, defines, unused, use_of, is_link, follows, Dots, whole, stem, neither, dots, is_state}
+use Rattle.pl_grammar.specs.Derivations.{Head, alone, dotted, space, Ex, number, bare, call, state, head, braced, listed, colon, entire, indexed, in_braces, Output, to, skip, Outputs, shown, test, each, each_in, Heading, upto, shut, no_value, headed, unheaded, leave, Block, empty, statement, taken, Params, Listing, Outs, no_outs, no_list, Title, title, Top, spaced, Prog}
 use Rattle.pl_grammar.specs.Trees.{head_mark, mark, op_mark, callee_mark, tgt_mark}
-use Rattle.pl_grammar.specs.Nesting.{count, weight, height, op_height, callee_height, args_height, elements_height, item_height, rows_height, tgt_height, output_height, skips, across, run_of, outputs_height, goal_height, inner_height, heading_height, part_height, smt_height, block_height, opened_height, fun_height, top_height, prog_height}
-use Rattle.pl_grammar.specs.Sound.{IsStem, IsHead, has_state, strength, wants, tightness, signs_stick, sticks, op_sticks, IsEven, IsTight, Leads, IsApart, signs_fit, IsRowBreak, IsSpaced, SoundEx, SoundOp, SoundCallee, SoundArgs, SoundElements, SoundItem, SoundRows, SoundTgt, SoundOutput, output_mark, IsOutputApart, SoundOutputs, SoundGoal, is_nothing, deletes, Scene, outermost, inside, may, SoundLead, SoundInner, SoundHeading, SoundPart, lead_word, inner_word, heading_word, part_word, opened_word, SoundSmt, SoundBlock, SoundOpened, IsNamed, AreNamed, ListsNames, SoundOuts, title_name, fun_name, has_function, SoundTitle, SoundFun, IsBehind, SoundTop, SoundProg}
+use Rattle.pl_grammar.specs.Nesting.{output_height, across, run_of, outputs_height, smt_height, block_height, opened_height, top_height, prog_height}
+use Rattle.pl_grammar.specs.Sound.{IsStem, has_state, SoundOutput, output_mark, SoundOutputs, outermost, may, opened_word, AreNamed, ListsNames, SoundOuts, title_name, has_function, SoundTitle, SoundProg}
 use Rattle.pl_grammar.specs.Programs.{Rules}
-use Rattle.pl_grammar.specs.Machine.{Pending, fresh, behind, Outgoing, fresh_outs, behind_outs, Waiting, fresh_params, behind_params, put, put_out, put_param, Site, main, body, within, Spot, here, linked, Stack, goal_of, lead_of, inner_of, outputs_of, op_of, paren_of, args_of, brace_of, row_of, Titling, begun_title, worded, outs_of, out_of, outs_shut, naming, entitled, params_of, param_of, titled, State, start, finished, operand, after, coloned, torn, at_sign, stemmed, dot, output, output_read, outputs_shut, loop, loop_in, index, index_in, ready, titling, between, spot_site, site_nests, outgoing_run, scene, enter, nests, in_row, in_index, beginning}
+use Rattle.pl_grammar.specs.Machine.{fresh, Outgoing, fresh_outs, behind_outs, Waiting, fresh_params, behind_params, put, put_out, put_param, Site, main, body, within, Spot, here, linked, Stack, goal_of, lead_of, inner_of, outputs_of, op_of, paren_of, args_of, brace_of, row_of, Titling, begun_title, worded, outs_of, out_of, outs_shut, naming, entitled, params_of, param_of, titled, State, start, finished, operand, after, coloned, torn, at_sign, stemmed, dot, output, output_read, outputs_shut, loop, loop_in, index, index_in, ready, titling, between, spot_site, site_nests, outgoing_run, scene, enter, nests, in_row, beginning}
 use Rattle.pl_grammar.specs.Steps
 use Rattle.pl_grammar.specs.Steps.{Step, Held, roomy, room, refused, reduce, run, step, onward, Answer, callee_tgt, tgt_of, set_out, set_tgt, pass, element_outputs, item_outputs, behind_all, row_outputs, pending_outputs, Outlist, as_outputs, called, embraced, read_operand, go_on, read_after, settle, ended}
-use Rattle.pl_grammar.proofs.Basics.{level_most, level_jumps, strength_most, strength_wants, Accepts, accepts_more, additive_level}
-use Rattle.pl_grammar.proofs.Reading.{Weak, plain_call, plain_brace, power_not_additive, too_weak}
-use Rattle.pl_grammar.proofs.Operands.{max_room, decide, both_true, fine_roomy, stack_room, accepts_all, Left, reduce_good, enters_free, called_good, operand_good}
+use Rattle.pl_grammar.proofs.Basics.{Accepts}
+use Rattle.pl_grammar.proofs.Operands.{max_room, decide, both_true, fine_roomy, Left, reduce_good, enters_free, called_good, operand_good}
 use Rattle.pl_grammar.proofs.Follows.{put_args, put_height, settle_good, settle_height, enter_good, after_good, untear_good}
-use Rattle.pl_grammar.proofs.Sites.{Placed, Free, Led, IsWritten, PendingArgs, PendingRow, pending_height, OutsSound, outs_height, IsNextOut, WaitingNames, AloneBehind, ListOn, BraceOn, Unique, TopGood, SiteGood, BlockGood, SpotGood, Fits, spot_room, OutsGood, StackGood, Fitting, AfterGood, IsList, DotOn, TitlingGood, Good, Fine}
+use Rattle.pl_grammar.proofs.Sites.{Placed, OutsSound, outs_height, IsNextOut, WaitingNames, Unique, TopGood, BlockGood, SpotGood, Fits, spot_room, OutsGood, StackGood, Fitting, AfterGood, IsList, TitlingGood, Good, Fine}
 
 put_out_sound : (p : Outgoing) (o : Output) → OutsSound p → IsNextOut p o → SoundOutput o → SoundOutputs (put_out p o)
 put_out_sound fresh_outs o h n d = d
@@ -113,7 +107,7 @@ module _ (r : Rules) where
 
   name_good : (e : Ex) (d : Mark) (n : Named) (S : Stack) → Good r (dot e d S) → Fine r (Steps.dot_name e d n S)
   name_good e d n S g = decide (λ x. Fine r x) (is_state n.text) (if has_state e then Ok (after (state e d n.mark) S) else refused) (Steps.longer e d n S)
-    (λ f. decide (λ x. Fine r x) (has_state e) (Ok (after (state e d n.mark) S)) refused (λ h. state_good e d n S h g) (λ h. tt)) (λ f. longer_good e d n S f g)
+      (λ f. decide (λ x. Fine r x) (has_state e) (Ok (after (state e d n.mark) S)) refused (λ h. state_good e d n S h g) (λ h. tt)) (λ f. longer_good e d n S f g)
 
   dot_word_good : (word : Word) (m : Mark) (e : Ex) (d : Mark) (S : Stack) → Good r (dot e d S) → Fine r (Steps.behind_dot word m e d S)
   dot_word_good (w.Name n) m e d S g = name_good e d (record { mark = m; text = n }) S g
@@ -163,9 +157,9 @@ module _ (r : Rules) where
   next_output_good word m o p t site b g =
       let n : ℕ = suc (suc (site_nests site)) in
       decide (λ x. Fine r x) m.gap (Steps.read_output r word m o (behind_outs (put_out p t) space) site b) refused
-        (λ e. output_good word m o (behind_outs (put_out p t) space) site b
-          (g.0.0, g.0.1, put_out_sound p t g.0.2 g.1 g.2, put_out_height p t n r.limit g.0.3 g.3, put_out_run p t n r.limit g.3) (λ x f. rw f e))
-        (λ e. tt)
+      (λ e. output_good word m o (behind_outs (put_out p t) space) site b
+      (g.0.0, g.0.1, put_out_sound p t g.0.2 g.1 g.2, put_out_height p t n r.limit g.0.3 g.3, put_out_run p t n r.limit g.3) (λ x f. rw f e))
+      (λ e. tt)
 
   behind_output_good : (word : Word) (m o : Mark) (p : Outgoing) (t : Output) (site : Site) (b : Block) → Good r (output_read o p t site b) → Fine r (Steps.behind_output r word m o p t site b)
   behind_output_good w.Comma m o p t site b g =
@@ -215,7 +209,7 @@ module _ (r : Rules) where
 
   spot_good : (word : Keyword) (site : Site) (b : Block) → BlockGood r site b → SpotOk word (Steps.spot_of word site b)
   spot_good word site b g = decide (λ x. SpotOk word x) (is_link word) (Steps.link_spot word site b) (if (scene site).holds && may (scene site) word then Some (here site b) else None) (λ e. link_good word site b g)
-    (λ e. decide (λ x. SpotOk word x) ((scene site).holds && may (scene site) word) (Some (here site b)) None (λ f. let q : ((scene site).holds ≡ true) × (may (scene site) word ≡ true) = both_true (scene site).holds (may (scene site) word) f in ((g, q.0), (e, q.1))) (λ f. tt))
+      (λ e. decide (λ x. SpotOk word x) ((scene site).holds && may (scene site) word) (Some (here site b)) None (λ f. let q : ((scene site).holds ≡ true) × (may (scene site) word ≡ true) = both_true (scene site).holds (may (scene site) word) f in ((g, q.0), (e, q.1))) (λ f. tt))
 
   on_spot_good : (word : Keyword) (x : Option Spot) (go : Spot → Step) → SpotOk word x → ((spot : Spot) → SpotGood r spot → Fits r spot word → spot_room r spot ≤ r.limit → Fine r (go spot)) → Fine r (Steps.on_spot r x go)
   on_spot_good word None go h f = tt
@@ -241,14 +235,14 @@ module _ (r : Rules) where
   use_good direct word m site b e g = on_spot_good word (Steps.spot_of word site b) (λ spot. Ok (start (enter (unheaded word m) spot) empty)) (spot_good word site b g) (λ spot h f l. enter_good r (unheaded word m) spot h f e (omega (arith, l)))
   use_good plain word m site b e g = on_spot_good word (Steps.spot_of word site b) (λ spot. Ok (ready (no_value word m) spot)) (spot_good word site b g) (λ spot h f l. (h, f, e, omega (arith, l)))
   use_good leaves word m site b e g = decide (λ x. Fine r x) ((scene site).holds && may (scene site) word) (roomy (room r (suc (site_nests site))) (Ok (finished (leave word m) site b))) refused
-    (λ f. let q : ((scene site).holds ≡ true) × (may (scene site) word ≡ true) = both_true (scene site).holds (may (scene site) word) f in fine_roomy r (suc (site_nests site)) (Ok (finished (leave word m) site b)) (λ l. (g, q.0, (e, q.1), omega (arith, l)))) (λ f. tt)
+      (λ f. let q : ((scene site).holds ≡ true) × (may (scene site) word ≡ true) = both_true (scene site).holds (may (scene site) word) f in fine_roomy r (suc (site_nests site)) (Ok (finished (leave word m) site b)) (λ l. (g, q.0, (e, q.1), omega (arith, l)))) (λ f. tt)
   use_good ends word m site b e g = ending_good m site b g
   use_good defines word m site b e g = defining_good m site b g
   use_good unused word m site b e g = tt
 
   begin_good : (word : Word) (m : Mark) (site : Site) (b : Block) → BlockGood r site b → Fine r (Steps.begin r word m site b)
   begin_good word m site b g = decide (λ x. Fine r x) (scene site).holds (roomy (room r (suc (site_nests site))) (read_operand r word m (goal_of shown site b))) refused
-    (λ f. fine_roomy r (suc (site_nests site)) (read_operand r word m (goal_of shown site b)) (λ l. operand_good r word m (goal_of shown site b) (g, f, tt, omega (arith, l)) tt (enters_free r word m (goal_of shown site b) (λ gap sticky. tt)))) (λ f. tt)
+      (λ f. fine_roomy r (suc (site_nests site)) (read_operand r word m (goal_of shown site b)) (λ l. operand_good r word m (goal_of shown site b) (g, f, tt, omega (arith, l)) tt (enters_free r word m (goal_of shown site b) (λ gap sticky. tt)))) (λ f. tt)
 
   start_good : (word : Word) (m : Mark) (site : Site) (b : Block) → BlockGood r site b → Fine r (Steps.read_start r word m site b)
   start_good w.Comma m site b g = g

@@ -1,23 +1,20 @@
 -- A step leaves what has been told: the terminals that the next state stands for, and the rest, are those that
 -- the state stood for, the terminal, and the rest.
-use Rattle.std.proofs.Common.{◌≡◌, ◌∙◌, ℕ, suc, ◌+◌, Bool, true, false, not, ◌&&◌, if◌then◌else◌, Option, Some, None, List, [], ◌∷◌, length, Ok, Err, refl, ap, sym, subst}
-use Rattle.std.specs.Prelude.{nat_le, nat_eq, codes}
-use Rattle.std.specs.Cmp.{first_so, second_so}
-use Rattle.std.specs.Cmp.Lexicographic.{pointwise}
-use Rattle.std.proofs.lemmas.Bool.{eqb-true}
+use Rattle.std.proofs.Common.{◌≡◌, ◌∙◌, ℕ, suc, ◌+◌, Bool, true, false, ◌&&◌, if◌then◌else◌, Option, Some, None, List, ◌∷◌, Ok, Err, refl, ap, sym, subst}
+use Rattle.std.specs.Prelude.{nat_le}
 use Rattle.pl_syntax.specs.declared.expr.Bin.{Bin}
 use Rattle.pl_grammar.specs.declared.terminal.Terminal.{Terminal}
 use Rattle.pl_grammar.specs.declared.terminal.Word.{Word}
 use Rattle.pl_grammar.specs.declared.terminal.Word.TheVariants as w
 use Rattle.pl_grammar.specs.declared.terminal.Keyword.{Keyword}
 use Rattle.pl_grammar.specs.declared.terminal.Keyword.TheVariants as k
-use Rattle.pl_grammar.specs.Words.{Mark, term, mark_of, Named, named, Additive, bin_of, Sign, additive, tilde, sign_word, additive_of, level, is_power, SepKind, comma, semicolon, line, Sep, sep_word, Use, tests, loops, direct, plain, leaves, ends, defines, unused, use_of, is_link, follows, Dots, whole, stem, neither, dots, is_state}
-use Rattle.pl_grammar.specs.Derivations.{Head, alone, dotted, Signs, no_signs, more_signs, Comma, written, space, Trail, no_trail, trail, Ex, number, chars, bare, call, state, paren, rows, rows_to, func, last, under, transposed, Op, joined, signed, from, stepped, Callee, head, braced, Args, no_args, listed, Elements, one, also, Item, value, colon, Rows, no_rows, broken, filled, Tgt, entire, indexed, in_braces, Output, to, skip, Outputs, only, beside, Goal, shown, into, spread, Lead, test, each, Inner, each_in, bound, workers, Heading, upto, shut, no_value, Part, headed, unheaded, Smt, simple, delete, leave, compound, Block, empty, blank, statement, Opened, Param, taken, ignored, Params, Listing, no_params, params, Outs, no_outs, single, several, Given, no_list, given, Title, title, fun, Top, script, define, spaced, Prog, whole_of, unended}
-use Rattle.pl_grammar.specs.Spelling.{sep, signs, comma_words, trail_words, ex, op, callee, args, elements, item, row_words, tgt, output_words, outputs, goal, lead, inner, heading, part, smt, block, opened, param, param_words, listing, outs_words, given_words, title_words, top, prog}
+use Rattle.pl_grammar.specs.Words.{Mark, term, Named, named, Additive, bin_of, Sign, additive, tilde, sign_word, additive_of, level, is_power, comma, semicolon, line, Sep}
+use Rattle.pl_grammar.specs.Derivations.{alone, dotted, no_signs, more_signs, Comma, written, space, no_trail, trail, Ex, number, chars, bare, call, state, paren, rows, rows_to, func, last, under, transposed, Op, joined, signed, from, stepped, Callee, head, braced, Args, no_args, listed, Elements, one, also, Item, value, colon, Rows, no_rows, broken, filled, Tgt, entire, indexed, in_braces, Output, to, skip, Outputs, only, beside, Goal, shown, into, spread, each_in, bound, workers, upto, Part, headed, Block, Param}
+use Rattle.pl_grammar.specs.Spelling.{sep, comma_words, ex, op, callee, args, elements, item, row_words, tgt, output_words, outputs, goal, part, smt, block, param, param_words}
 use Rattle.pl_grammar.specs.Nesting.{height}
 use Rattle.pl_grammar.specs.Sound.{has_state, strength}
 use Rattle.pl_grammar.specs.Programs.{Rules}
-use Rattle.pl_grammar.specs.Machine.{Pending, fresh, behind, Outgoing, fresh_outs, behind_outs, Waiting, fresh_params, behind_params, put, put_out, put_param, Site, main, body, within, Spot, here, linked, Stack, goal_of, lead_of, inner_of, outputs_of, op_of, paren_of, args_of, brace_of, row_of, Titling, begun_title, worded, outs_of, out_of, outs_shut, naming, entitled, params_of, param_of, titled, State, start, finished, operand, after, coloned, torn, at_sign, stemmed, dot, output, output_read, outputs_shut, loop, loop_in, index, index_in, ready, titling, between, pending_words, outgoing_words, waiting_words, site_words, spot_words, stack_words, told, enter, nests, in_row, in_index, beginning}
+use Rattle.pl_grammar.specs.Machine.{Pending, fresh, behind, Outgoing, fresh_outs, behind_outs, Waiting, fresh_params, behind_params, put, put_out, put_param, Site, Spot, here, linked, Stack, goal_of, lead_of, inner_of, outputs_of, op_of, paren_of, args_of, brace_of, row_of, State, operand, after, torn, dot, output, outputs_shut, pending_words, outgoing_words, waiting_words, site_words, spot_words, stack_words, told, enter, nests, in_row, in_index}
 use Rattle.pl_grammar.specs.Steps
 use Rattle.pl_grammar.specs.Steps.{Step, Held, roomy, room, refused, reduce, run, step, onward, Answer, callee_tgt, tgt_of, set_out, set_tgt, pass, element_outputs, item_outputs, behind_all, row_outputs, pending_outputs, Outlist, as_outputs, called, embraced, read_operand, go_on, read_after, settle, ended}
 use Rattle.pl_grammar.proofs.Reading.{pick}
@@ -139,11 +136,13 @@ as_outputs_words (op_of (signed m tilde) S) l rest h = by_below (λ x g. as_outp
   where
     Below : Type 0
     Below = (x : Outlist) → as_outputs S ≡ Some x → outlist_words x (term w.Not m ∷ rest) ≡ stack_words S (term w.Not m ∷ rest)
+
     by_set : Below → (x : Outlist) (y : Option Outputs) → as_outputs S ≡ Some x → set_out x.outputs m.gap (skip m) ≡ y → Steps.skip_in m x y ≡ Some l → outlist_words l rest ≡ stack_words S (term w.Not m ∷ rest)
     by_set ih x None g s f = cc
     by_set ih x (Some os) g s f =
         let e : record { mark = x.mark; outputs = behind_outs os space; site = x.site; block = x.block } ≡ l = cc in
         ap (λ y. outlist_words y rest) (sym e) ∙ ap (λ y. site_words x.site (block x.block (term w.OpenSquare x.mark ∷ y))) (set_out_words x.outputs m.gap (skip m) os rest s) ∙ ih x g
+
     by_below : Below → (x : Option Outlist) → as_outputs S ≡ x → Steps.skip_onto m x ≡ Some l → outlist_words l rest ≡ stack_words S (term w.Not m ∷ rest)
     by_below ih None g f = cc
     by_below ih (Some x) g f = by_set ih x (set_out x.outputs m.gap (skip m)) g refl f
@@ -241,6 +240,7 @@ module _ (r : Rules) where
           let g : record { mark = x.mark; outputs = behind_outs ys space; site = x.site; block = x.block } ≡ l = cc in
           let i : behind_outs ys space ≡ l.outputs = ap (λ z. z.outputs) g in
           let j : behind_outs ys space ≡ behind_outs os c = i ∙ e in cc
+
       by_below : (x : Option Outlist) → Steps.skip_onto m x ≡ Some l → c ≡ space
       by_below None f = cc
       by_below (Some x) f = by_set x (set_out x.outputs m.gap (skip m)) f
@@ -362,8 +362,8 @@ module _ (r : Rules) where
   operator_tells o (Some a) m e S rest h =
       let ts : List Terminal = stack_words S (ex e (term (w.Binary o) m ∷ rest)) in
       choose (in_row S && m.gap) (Steps.tear r e a m S (reduce 0 e S).stack) (Steps.join r (reduce (level o) e S).operand (reduce (level o) e S).stack o m) rest ts
-        (roomy_tells (room r (suc (nests (reduce 0 e S).stack))) (Ok (torn e a m S)) rest ts (ap (λ x. stack_words S (ex e (term (w.Binary x) m ∷ rest))) (bin_additive o a h)))
-        (reduced_join (level o) e S o m rest)
+      (roomy_tells (room r (suc (nests (reduce 0 e S).stack))) (Ok (torn e a m S)) rest ts (ap (λ x. stack_words S (ex e (term (w.Binary x) m ∷ rest))) (bin_additive o a h)))
+      (reduced_join (level o) e S o m rest)
 
   transpose_tells : (m : Mark) (e : Ex) (S : Stack) (rest : List Terminal) → Tells (Steps.transpose r m e S) rest (stack_words S (ex e (term w.Quote m ∷ rest)))
   transpose_tells m e S rest = roomy_tells (room r (suc (height e + nests S))) (Ok (after (transposed e m) S)) rest (stack_words S (ex e (term w.Quote m ∷ rest))) refl
@@ -542,8 +542,8 @@ module _ (r : Rules) where
 
   pub after_tells : (word : Word) (m : Mark) (e : Ex) (S : Stack) (rest : List Terminal) → Tells (read_after r word m e S) rest (stack_words S (ex e (term word m ∷ rest)))
   after_tells word m e S rest = choose (Steps.begins_element word S && (in_row S && m.gap)) (Steps.apart (reduce 0 e S).operand (reduce 0 e S).stack (λ row. read_operand r word m row)) (go_on r word m e S) rest (stack_words S (ex e (term word m ∷ rest)))
-    (reduced 0 (λ x T. Steps.apart x T (λ row. read_operand r word m row)) (term word m) rest (λ x T. apart_tells x T (λ row. read_operand r word m row) (term word m) rest (λ U. operand_tells word m U rest)) e S)
-    (go_on_tells word m e S rest)
+      (reduced 0 (λ x T. Steps.apart x T (λ row. read_operand r word m row)) (term word m) rest (λ x T. apart_tells x T (λ row. read_operand r word m row) (term word m) rest (λ U. operand_tells word m U rest)) e S)
+      (go_on_tells word m e S rest)
 
   pub untear_tells : (e : Ex) (a : Additive) (n : Mark) (S : Stack) (word : Word) (m : Mark) (rest : List Terminal) → Tells (Steps.untear r e a n S word m) rest (stack_words S (ex e (term (w.Binary (bin_of a)) n ∷ term word m ∷ rest)))
   untear_tells e a n S word m rest =
@@ -551,10 +551,10 @@ module _ (r : Rules) where
       let T : Stack = (reduce 7 e S).stack in
       let x : Ex = (reduce 7 e S).operand in
       choose m.gap (roomy (room r (suc (height x + nests T))) (read_operand r word m (op_of (joined x (bin_of a) n no_signs) T))) (Steps.apart (reduce 0 e S).operand (reduce 0 e S).stack (λ row. read_operand r word m (op_of (signed n (additive a)) row))) rest ts
-        (roomy_tells (room r (suc (height x + nests T))) (read_operand r word m (op_of (joined x (bin_of a) n no_signs) T)) rest ts
-          (retell (read_operand r word m (op_of (joined x (bin_of a) n no_signs) T)) rest (stack_words T (ex x (term (w.Binary (bin_of a)) n ∷ term word m ∷ rest))) ts (reduce_tells 7 e S (term (w.Binary (bin_of a)) n ∷ term word m ∷ rest)) (operand_tells word m (op_of (joined x (bin_of a) n no_signs) T) rest)))
-        (retell (Steps.apart (reduce 0 e S).operand (reduce 0 e S).stack (λ row. read_operand r word m (op_of (signed n (additive a)) row))) rest (stack_words (reduce 0 e S).stack (ex (reduce 0 e S).operand (term (w.Binary (bin_of a)) n ∷ term word m ∷ rest))) ts (reduce_tells 0 e S (term (w.Binary (bin_of a)) n ∷ term word m ∷ rest))
-          (sign_apart (reduce 0 e S).operand (reduce 0 e S).stack))
+      (roomy_tells (room r (suc (height x + nests T))) (read_operand r word m (op_of (joined x (bin_of a) n no_signs) T)) rest ts
+      (retell (read_operand r word m (op_of (joined x (bin_of a) n no_signs) T)) rest (stack_words T (ex x (term (w.Binary (bin_of a)) n ∷ term word m ∷ rest))) ts (reduce_tells 7 e S (term (w.Binary (bin_of a)) n ∷ term word m ∷ rest)) (operand_tells word m (op_of (joined x (bin_of a) n no_signs) T) rest)))
+      (retell (Steps.apart (reduce 0 e S).operand (reduce 0 e S).stack (λ row. read_operand r word m (op_of (signed n (additive a)) row))) rest (stack_words (reduce 0 e S).stack (ex (reduce 0 e S).operand (term (w.Binary (bin_of a)) n ∷ term word m ∷ rest))) ts (reduce_tells 0 e S (term (w.Binary (bin_of a)) n ∷ term word m ∷ rest))
+      (sign_apart (reduce 0 e S).operand (reduce 0 e S).stack))
     where
       sign_apart : (y : Ex) (U : Stack) → Tells (Steps.apart y U (λ row. read_operand r word m (op_of (signed n (additive a)) row))) rest (stack_words U (ex y (term (w.Binary (bin_of a)) n ∷ term word m ∷ rest)))
       sign_apart y (row_of o rs p U) = retell (read_operand r word m (op_of (signed n (additive a)) (row_of o rs (behind (put p (value y)) space) U))) rest (stack_words U (term w.OpenSquare o ∷ row_words rs (elements (put p (value y)) (term (w.Binary (bin_of a)) n ∷ term word m ∷ rest)))) (stack_words U (term w.OpenSquare o ∷ row_words rs (pending_words p (ex y (term (w.Binary (bin_of a)) n ∷ term word m ∷ rest))))) (ap (λ z. stack_words U (term w.OpenSquare o ∷ row_words rs z)) (put_words p (value y) (term (w.Binary (bin_of a)) n ∷ term word m ∷ rest))) (operand_tells word m (op_of (signed n (additive a)) (row_of o rs (behind (put p (value y)) space) U)) rest)

@@ -1,22 +1,20 @@
 -- Each step leaves what has been told, and so a run that ends has told its program's terminals.
-use Rattle.std.proofs.Common.{◌≡◌, ◌∙◌, ℕ, suc, ◌+◌, Bool, true, false, not, ◌&&◌, if◌then◌else◌, Option, Some, None, List, [], ◌∷◌, length, Ok, Err, refl, ap, sym, subst}
-use Rattle.std.specs.Prelude.{nat_le, nat_eq, codes}
+use Rattle.std.proofs.Common.{◌≡◌, ◌∙◌, ℕ, suc, ◌+◌, Bool, true, false, not, ◌&&◌, if◌then◌else◌, Option, Some, None, List, [], ◌∷◌, length, Ok, Err, refl, ap, sym}
+use Rattle.std.specs.Prelude.{nat_eq, codes}
 use Rattle.std.specs.Cmp.{first_so, second_so}
 use Rattle.std.specs.Cmp.Lexicographic.{pointwise}
 use Rattle.std.proofs.lemmas.Bool.{eqb-true}
-use Rattle.pl_syntax.specs.declared.expr.Bin.{Bin}
 use Rattle.pl_grammar.specs.declared.terminal.Terminal.{Terminal}
 use Rattle.pl_grammar.specs.declared.terminal.Word.{Word}
 use Rattle.pl_grammar.specs.declared.terminal.Word.TheVariants as w
 use Rattle.pl_grammar.specs.declared.terminal.Keyword.{Keyword}
 use Rattle.pl_grammar.specs.declared.terminal.Keyword.TheVariants as k
-use Rattle.pl_grammar.specs.Words.{Mark, term, mark_of, Named, named, Additive, bin_of, Sign, additive, tilde, sign_word, additive_of, level, is_power, SepKind, comma, semicolon, line, Sep, sep_word, Use, tests, loops, direct, plain, leaves, ends, defines, unused, use_of, is_link, follows, Dots, whole, stem, neither, dots, is_state}
-use Rattle.pl_grammar.specs.Derivations.{Head, alone, dotted, Signs, no_signs, more_signs, Comma, written, space, Trail, no_trail, trail, Ex, number, chars, bare, call, state, paren, rows, rows_to, func, last, under, transposed, Op, joined, signed, from, stepped, Callee, head, braced, Args, no_args, listed, Elements, one, also, Item, value, colon, Rows, no_rows, broken, filled, Tgt, entire, indexed, in_braces, Output, to, skip, Outputs, only, beside, Goal, shown, into, spread, Lead, test, each, Inner, each_in, bound, workers, Heading, upto, shut, no_value, Part, headed, unheaded, Smt, simple, delete, leave, compound, Block, empty, blank, statement, Opened, Param, taken, ignored, Params, Listing, no_params, params, Outs, no_outs, single, several, Given, no_list, given, Title, title, fun, Top, script, define, spaced, Prog, whole_of, unended}
-use Rattle.pl_grammar.specs.Spelling.{sep, signs, comma_words, trail_words, ex, op, callee, args, elements, item, row_words, tgt, output_words, outputs, goal, lead, inner, heading, part, smt, block, opened, param, param_words, listing, outs_words, given_words, title_words, top, prog}
-use Rattle.pl_grammar.specs.Nesting.{height}
+use Rattle.pl_grammar.specs.Words.{Mark, term, mark_of, Named, named, comma, semicolon, line, Sep, Use, tests, loops, direct, plain, leaves, ends, defines, unused, use_of, is_link, follows, Dots, whole, stem, neither, dots, is_state}
+use Rattle.pl_grammar.specs.Derivations.{Head, alone, dotted, space, Ex, bare, state, head, braced, listed, colon, entire, indexed, in_braces, Output, to, skip, Outputs, shown, test, each, each_in, Heading, upto, shut, no_value, headed, unheaded, leave, Block, empty, statement, taken, ignored, Params, Listing, Outs, no_outs, no_list, Title, title, Top, spaced, Prog}
+use Rattle.pl_grammar.specs.Spelling.{sep, ex, callee, elements, outputs, heading, smt, block, param_words, listing, outs_words, title_words, top, prog}
 use Rattle.pl_grammar.specs.Sound.{has_state, may}
 use Rattle.pl_grammar.specs.Programs.{Rules}
-use Rattle.pl_grammar.specs.Machine.{Pending, fresh, behind, Outgoing, fresh_outs, behind_outs, Waiting, fresh_params, behind_params, put, put_out, put_param, Site, main, body, within, Spot, here, linked, Stack, goal_of, lead_of, inner_of, outputs_of, op_of, paren_of, args_of, brace_of, row_of, Titling, begun_title, worded, outs_of, out_of, outs_shut, naming, entitled, params_of, param_of, titled, State, start, finished, operand, after, coloned, torn, at_sign, stemmed, dot, output, output_read, outputs_shut, loop, loop_in, index, index_in, ready, titling, between, pending_words, outgoing_words, waiting_words, site_words, spot_words, stack_words, told, titling_words, spot_site, site_nests, outgoing_run, scene, enter, nests}
+use Rattle.pl_grammar.specs.Machine.{fresh, Outgoing, behind_outs, Waiting, fresh_params, behind_params, put, put_out, Site, main, body, within, Spot, here, linked, Stack, goal_of, lead_of, inner_of, outputs_of, op_of, paren_of, args_of, brace_of, row_of, Titling, begun_title, worded, outs_of, out_of, outs_shut, naming, entitled, params_of, param_of, titled, State, start, finished, operand, after, coloned, torn, at_sign, stemmed, dot, output, output_read, outputs_shut, loop, loop_in, index, index_in, ready, titling, between, pending_words, outgoing_words, waiting_words, site_words, spot_words, stack_words, told, titling_words, spot_site, site_nests, outgoing_run, scene, enter, nests}
 use Rattle.pl_grammar.specs.Steps
 use Rattle.pl_grammar.specs.Steps.{Step, Held, roomy, room, refused, reduce, run, step, onward, Answer, callee_tgt, tgt_of, set_out, set_tgt, pass, element_outputs, item_outputs, behind_all, row_outputs, pending_outputs, Outlist, as_outputs, called, embraced, read_operand, go_on, read_after, settle, ended}
 use Rattle.pl_grammar.proofs.Reading.{pick}
@@ -178,7 +176,7 @@ module _ (r : Rules) where
 
   spot_of_words : (word : Keyword) (site : Site) (b : Block) → IsSpotOf site b (Steps.spot_of word site b)
   spot_of_words word site b = pick (λ x. IsSpotOf site b x) (is_link word) (Steps.link_spot word site b) (if (scene site).holds && may (scene site) word then Some (here site b) else None) (link_words word site b)
-    (pick (λ x. IsSpotOf site b x) ((scene site).holds && may (scene site) word) (Some (here site b)) None (λ rest. refl) tt)
+      (pick (λ x. IsSpotOf site b x) ((scene site).holds && may (scene site) word) (Some (here site b)) None (λ rest. refl) tt)
 
   on_spot_tells : (x : Option Spot) (site : Site) (b : Block) (go : Spot → Step) (rest us : List Terminal) → IsSpotOf site b x → ((spot : Spot) → Tells (go spot) rest (spot_words spot us)) → Tells (Steps.on_spot r x go) rest (site_words site (block b us))
   on_spot_tells None site b go rest us h f = tt

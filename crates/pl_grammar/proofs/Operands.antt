@@ -1,28 +1,23 @@
 -- A terminal where an operand has to come leads to a good state.
-use Rattle.std.proofs.Common.{◌≡◌, ◌∙◌, ℕ, suc, ◌+◌, Bool, true, false, not, ◌&&◌, if◌then◌else◌, Option, Some, None, List, [], ◌∷◌, length, Ok, Err, refl, ap, sym, subst, arith, ◌≤◌}
-use Rattle.std.specs.Prelude.{nat_le, nat_eq, leb, codes, max, is_some}
+use Rattle.std.proofs.Common.{◌≡◌, ℕ, suc, ◌+◌, Bool, true, false, not, ◌&&◌, if◌then◌else◌, Option, Some, None, Ok, Err, refl, sym, subst, arith, ◌≤◌}
+use Rattle.std.specs.Prelude.{nat_le, nat_eq, leb, max}
 use Rattle.std.proofs.Math.Nat.{le-max_left, le-max_right, max-eq_left, max-eq_right}
-use Rattle.std.specs.Cmp.{first_so, second_so}
-use Rattle.std.specs.Cmp.Lexicographic.{pointwise}
 use Rattle.std.proofs.lemmas.Bool.{leb-true, leb-false}
 use Rattle.pl_syntax.specs.declared.expr.Bin.{Bin}
-use Rattle.pl_grammar.specs.declared.terminal.Terminal.{Terminal}
 use Rattle.pl_grammar.specs.declared.terminal.Word.{Word}
 use Rattle.pl_grammar.specs.declared.terminal.Word.TheVariants as w
-use Rattle.pl_grammar.specs.declared.terminal.Keyword.{Keyword}
-use Rattle.pl_grammar.specs.declared.terminal.Keyword.TheVariants as k
-use Rattle.pl_grammar.specs.Words.{Mark, term, mark_of, Named, named, Additive, bin_of, Sign, additive, tilde, sign_word, additive_of, level, is_power, SepKind, comma, semicolon, line, Sep, sep_word, Use, tests, loops, direct, plain, leaves, ends, defines, unused, use_of, is_link, follows, Dots, whole, stem, neither, dots, is_state}
-use Rattle.pl_grammar.specs.Derivations.{Head, alone, dotted, Signs, no_signs, more_signs, Comma, written, space, Trail, no_trail, trail, Ex, number, chars, bare, call, state, paren, rows, rows_to, func, last, under, transposed, Op, joined, signed, from, stepped, Callee, head, braced, Args, no_args, listed, Elements, one, also, Item, value, colon, Rows, no_rows, broken, filled, Tgt, entire, indexed, in_braces, Output, to, skip, Outputs, only, beside, Goal, shown, into, spread, Lead, test, each, Inner, each_in, bound, workers, Heading, upto, shut, no_value, Part, headed, unheaded, Smt, simple, delete, leave, compound, Block, empty, blank, statement, Opened, Param, taken, ignored, Params, Listing, no_params, params, Outs, no_outs, single, several, Given, no_list, given, Title, title, fun, Top, script, define, spaced, Prog, whole_of, unended}
-use Rattle.pl_grammar.specs.Trees.{head_mark, mark, op_mark, callee_mark, tgt_mark}
-use Rattle.pl_grammar.specs.Nesting.{count, weight, height, op_height, callee_height, args_height, elements_height, item_height, rows_height, tgt_height, output_height, skips, across, run_of, outputs_height, goal_height, inner_height, heading_height, part_height, smt_height, block_height, opened_height, fun_height, top_height, prog_height}
-use Rattle.pl_grammar.specs.Sound.{IsStem, IsHead, has_state, strength, wants, tightness, signs_stick, sticks, op_sticks, IsEven, IsTight, Leads, IsApart, signs_fit, IsRowBreak, IsSpaced, SoundEx, SoundOp, SoundCallee, SoundArgs, SoundElements, SoundItem, SoundRows, SoundTgt, SoundOutput, output_mark, IsOutputApart, SoundOutputs, SoundGoal, is_nothing, deletes, Scene, outermost, inside, may, SoundLead, SoundInner, SoundHeading, SoundPart, lead_word, inner_word, heading_word, part_word, opened_word, SoundSmt, SoundBlock, SoundOpened, IsNamed, AreNamed, ListsNames, SoundOuts, title_name, fun_name, has_function, SoundTitle, SoundFun, IsBehind, SoundTop, SoundProg}
+use Rattle.pl_grammar.specs.Words.{Mark, Named, Additive, Sign, additive, tilde, additive_of, level, is_power, semicolon, line, Sep}
+use Rattle.pl_grammar.specs.Derivations.{alone, dotted, no_signs, more_signs, Comma, written, space, Ex, number, chars, bare, call, state, paren, rows, rows_to, func, last, under, transposed, Op, joined, signed, from, stepped, Callee, head, braced, Args, no_args, Elements, one, also, Item, value, colon, Rows, no_rows, broken, filled, Tgt, entire, indexed, in_braces, Output, to, skip, Outputs, only, beside, shown, into, spread, Block}
+use Rattle.pl_grammar.specs.Trees.{mark, callee_mark, tgt_mark}
+use Rattle.pl_grammar.specs.Nesting.{weight, height, op_height, callee_height, args_height, elements_height, item_height, rows_height, tgt_height, output_height, skips, across, run_of, outputs_height}
+use Rattle.pl_grammar.specs.Sound.{strength, wants, tightness, signs_stick, sticks, IsTight, IsRowBreak, IsSpaced, SoundEx, SoundCallee, SoundArgs, SoundElements, SoundItem, SoundTgt, SoundOutput, output_mark, SoundOutputs}
 use Rattle.pl_grammar.specs.Programs.{Rules}
-use Rattle.pl_grammar.specs.Machine.{Pending, fresh, behind, Outgoing, fresh_outs, behind_outs, Waiting, fresh_params, behind_params, put, put_out, put_param, Site, main, body, within, Spot, here, linked, Stack, goal_of, lead_of, inner_of, outputs_of, op_of, paren_of, args_of, brace_of, row_of, Titling, begun_title, worded, outs_of, out_of, outs_shut, naming, entitled, params_of, param_of, titled, State, start, finished, operand, after, coloned, torn, at_sign, stemmed, dot, output, output_read, outputs_shut, loop, loop_in, index, index_in, ready, titling, between, spot_site, site_nests, outgoing_run, scene, enter, nests, in_row, in_index, beginning}
+use Rattle.pl_grammar.specs.Machine.{Pending, fresh, behind, Outgoing, fresh_outs, behind_outs, Site, Stack, goal_of, lead_of, inner_of, outputs_of, op_of, paren_of, args_of, brace_of, row_of, State, operand, after, output, outputs_shut, site_nests, outgoing_run, nests, in_row, in_index}
 use Rattle.pl_grammar.specs.Steps
 use Rattle.pl_grammar.specs.Steps.{Step, Held, roomy, room, refused, reduce, run, step, onward, Answer, callee_tgt, tgt_of, set_out, set_tgt, pass, element_outputs, item_outputs, behind_all, row_outputs, pending_outputs, Outlist, as_outputs, called, embraced, read_operand, go_on, read_after, settle, ended}
-use Rattle.pl_grammar.proofs.Basics.{level_most, level_jumps, strength_most, strength_wants, Accepts, accepts_more, additive_level}
-use Rattle.pl_grammar.proofs.Reading.{Weak, plain_call, plain_brace, power_not_additive, too_weak}
-use Rattle.pl_grammar.proofs.Sites.{Placed, Free, Led, IsWritten, PendingArgs, PendingRow, pending_height, OutsSound, outs_height, IsNextOut, WaitingNames, AloneBehind, ListOn, BraceOn, Unique, TopGood, SiteGood, BlockGood, SpotGood, Fits, spot_room, OutsGood, StackGood, Fitting, AfterGood, IsList, DotOn, TitlingGood, Good, Fine}
+use Rattle.pl_grammar.proofs.Basics.{level_most, level_jumps, Accepts}
+use Rattle.pl_grammar.proofs.Reading.{Weak, plain_call, plain_brace}
+use Rattle.pl_grammar.proofs.Sites.{Placed, Free, Led, PendingRow, pending_height, OutsSound, outs_height, IsNextOut, ListOn, BraceOn, OutsGood, StackGood, Fitting, Good, Fine}
 
 -- ---- room
 
@@ -51,6 +46,7 @@ module _ (r : Rules) where
       failed : (x : Step) → Fine r (roomy false x)
       failed (Ok st) = tt
       failed (Err f) = tt
+
       by_room : (v : Bool) → room r n ≡ v → Fine r (roomy v s)
       by_room true g = h (there_is n g)
       by_room false g = failed s
@@ -126,8 +122,8 @@ module _ (r : Rules) where
   reduce_good l e (outputs_of m p site b) h t = (h, t, tt, refl)
   reduce_good l e (op_of p S) h t =
       decide (λ x. Left l (in_row S) x) (nat_le l (strength p)) (reduce l (under p e) S) (record { operand = e; stack = op_of p S })
-        (λ g. reduce_good l (under p e) S (under_fits p e S h) (leb-true l (strength p) g))
-        (λ g. (h, t, leb-false l (strength p) g, refl))
+      (λ g. reduce_good l (under p e) S (under_fits p e S h) (leb-true l (strength p) g))
+      (λ g. (h, t, leb-false l (strength p) g, refl))
   reduce_good l e (paren_of m S) h t = (h, t, tt, refl)
   reduce_good l e (args_of c m p S) h t = (h, t, tt, refl)
   reduce_good l e (brace_of n m S) h t = (h, t, tt, refl)
@@ -203,6 +199,7 @@ module _ (r : Rules) where
         where
           ten : (x : ℕ) → x ≡ 10 → nat_eq x 10 ≡ false → ⊥
           ten x e f = let bad : nat_eq 10 10 ≡ false = rw e at f in cc
+
           by_nine : (v : Bool) → leb 9 n ≡ v → suc n ≤ 9
           by_nine true g = absurd (let h : 10 ≤ n = j (leb-true 9 n g) in ten n (omega (arith, h, k)) f)
           by_nine false g = omega (arith, leb-false 9 n g)
@@ -210,9 +207,9 @@ module _ (r : Rules) where
   sign_good : (x : Sign) (m : Mark) (S : Stack) → StackGood r S → Accepts S 11 → ((gap : Bool) → Placed m.gap (signs_stick x gap) S) → Fine r (Steps.sign r x m S)
   sign_good x m (op_of (joined a o n us) S) g c t =
       decide (λ y. Fine r y) (is_power o) (roomy (room r (suc (nests (op_of (joined a o n us) S)))) (Ok (operand (op_of (joined a o n (more_signs us m x)) S)))) (Steps.raise r x m (op_of (joined a o n us) S))
-        (λ e. fine_roomy (suc (nests (op_of (joined a o n us) S))) (Ok (operand (op_of (joined a o n (more_signs us m x)) S)))
-          (λ l. ((g.0, (g.1.0, e, g.1.2), g.2, g.3, omega (arith, l), g.5), (λ gap sticky. tt), omega (arith, level_most o))))
-        (λ e. raise_good x m (op_of (joined a o n us) S) g (not_power o e) t)
+      (λ e. fine_roomy (suc (nests (op_of (joined a o n us) S))) (Ok (operand (op_of (joined a o n (more_signs us m x)) S)))
+      (λ l. ((g.0, (g.1.0, e, g.1.2), g.2, g.3, omega (arith, l), g.5), (λ gap sticky. tt), omega (arith, level_most o))))
+      (λ e. raise_good x m (op_of (joined a o n us) S) g (not_power o e) t)
   sign_good x m (op_of (signed n y) S) g c t = raise_good x m (op_of (signed n y) S) g (omega arith) t
   sign_good x m (op_of (from a n) S) g c t = raise_good x m (op_of (from a n) S) g (omega arith) t
   sign_good x m (op_of (stepped a n b o) S) g c t = raise_good x m (op_of (stepped a n b o) S) g (omega arith) t
@@ -340,12 +337,14 @@ module _ (r : Rules) where
       made q f s z v =
           let e : record { mark = m; outputs = q; site = site; block = b } ≡ l = cc in
           subst (λ x. OutlistOk x (suc (suc (site_nests site)))) e ((g.0.0, g.0.1, s, v, omega (arith, z, g.4)), omega (arith, z))
+
       by_row : (es : Elements) (c : Comma) (y : Option Outputs) → row_outputs es ≡ y → Steps.outlist m site b (pending_outputs (behind es c)) ≡ Some l → SoundElements true false es → elements_height es + suc (suc (site_nests site)) ≤ r.limit → OutlistOk l (suc (suc (site_nests site)))
       by_row es c None e f s v = let bad : Steps.outlist m site b None ≡ Some l = rw e at f in cc
       by_row es c (Some os) e f s v =
           let k : RowOk os (elements_height es) = row_sound es os e s in
           let f' : Steps.outlist m site b (Some (behind_outs os c)) ≡ Some l = rw e at f in
           made (behind_outs os c) f' k.0 (flat c (run_of os) k.1) (omega (arith, v, k.2))
+
       by_pending : (x : Option Outgoing) (q : Pending) → pending_outputs q ≡ x → Steps.outlist m site b (pending_outputs q) ≡ Some l → PendingRow false q → pending_height q + suc (suc (site_nests site)) ≤ r.limit → OutlistOk l (suc (suc (site_nests site)))
       by_pending x fresh e f s v = made fresh_outs f tt refl v
       by_pending x (behind es c) e f s v = by_row es c (row_outputs es) refl f s v
@@ -359,6 +358,7 @@ module _ (r : Rules) where
           let sn : run_of os ≡ suc (outgoing_run x.outputs) = set_run x.outputs m.gap (skip m) os e in
           let v : max (outs_height x.outputs) (outgoing_run x.outputs + 1) + n ≤ r.limit = max_room (outs_height x.outputs) (outgoing_run x.outputs + 1) n r.limit i.0.3 (omega (arith, i.1, g.4)) in
           subst (λ y. OutlistOk y (1 + nests S)) e' ((i.0.0, i.0.1, set_sound x.outputs m.gap (skip m) os e refl i.0.2 tt, omega (arith, set_height x.outputs m.gap (skip m) os e, v), omega (arith, sn, i.1, g.4)), omega (arith, sn, i.1))
+
       by_below : ((x : Outlist) → as_outputs S ≡ Some x → OutlistOk x (nests S)) → (x : Option Outlist) → as_outputs S ≡ x → Steps.skip_onto m x ≡ Some l → OutlistOk l (1 + nests S)
       by_below ih None e f = cc
       by_below ih (Some x) e f = by_set x (set_out x.outputs m.gap (skip m)) (ih x e) refl f
@@ -485,4 +485,4 @@ module _ (r : Rules) where
   operand_good w.Dot m S g a e = tt
   operand_good (w.Key word) m S g a e =
       decide (λ x. Fine r x) (Steps.end_word word && in_index S) (Ok (after (last m) S)) refused
-        (λ h. let i : in_index S ≡ true = (both_true (Steps.end_word word) (in_index S) h).1 in ((g, i, a, omega (arith, stack_room S g), e), omega arith)) (λ h. tt)
+      (λ h. let i : in_index S ≡ true = (both_true (Steps.end_word word) (in_index S) h).1 in ((g, i, a, omega (arith, stack_room S g), e), omega arith)) (λ h. tt)

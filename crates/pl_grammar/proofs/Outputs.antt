@@ -1,21 +1,19 @@
 -- The machine reads a list of outputs. It takes them for the elements of a row as long as it can, and for what
 -- they are from the first `~` on that a comma or the bracket follows.
-use Rattle.std.proofs.Common.{◌≡◌, ◌∙◌, ℕ, suc, zero, ◌+◌, ◌≤◌, Bool, true, false, not, ◌&&◌, Option, Some, None, List, [], ◌∷◌, length, Ok, Err, refl, ap, sym, subst, arith}
-use Rattle.std.specs.Prelude.{nat_le, max}
+use Rattle.std.proofs.Common.{◌≡◌, ◌∙◌, ℕ, suc, ◌+◌, ◌≤◌, Bool, true, Option, Some, None, List, [], ◌∷◌, length, refl, ap, sym, subst, arith}
 use Rattle.pl_grammar.specs.declared.terminal.Terminal.{Terminal}
-use Rattle.pl_grammar.specs.declared.terminal.Word.{Word}
 use Rattle.pl_grammar.specs.declared.terminal.Word.TheVariants as w
-use Rattle.pl_grammar.specs.Words.{Mark, term, named, additive, tilde}
-use Rattle.pl_grammar.specs.Derivations.{alone, Comma, written, space, no_trail, Ex, bare, call, rows_to, under, signed, head, braced, value, no_rows, Tgt, entire, indexed, in_braces, Output, to, skip, Outputs, only, beside, shown, spread, Block}
+use Rattle.pl_grammar.specs.Words.{Mark, term, tilde}
+use Rattle.pl_grammar.specs.Derivations.{alone, Comma, written, space, Ex, bare, call, under, signed, head, braced, value, no_rows, Tgt, entire, indexed, in_braces, Output, to, skip, Outputs, only, beside, shown, spread, Block}
 use Rattle.pl_grammar.specs.Spelling.{ex, args, comma_words, tgt, output_words, outputs}
 use Rattle.pl_grammar.specs.Trees.{tgt_mark}
-use Rattle.pl_grammar.specs.Nesting.{args_height, height, tgt_height, output_height, skips, across, run_of, outputs_height}
-use Rattle.pl_grammar.specs.Sound.{tightness, IsTight, SoundEx, SoundArgs, SoundTgt, SoundOutput, output_mark, IsOutputApart, SoundOutputs}
+use Rattle.pl_grammar.specs.Nesting.{args_height, height, tgt_height, output_height, across, run_of, outputs_height}
+use Rattle.pl_grammar.specs.Sound.{tightness, SoundEx, SoundTgt, SoundOutput, output_mark, IsOutputApart, SoundOutputs}
 use Rattle.pl_grammar.specs.Programs.{Rules}
-use Rattle.pl_grammar.specs.Machine.{Pending, fresh, behind, Outgoing, fresh_outs, behind_outs, put, put_out, Site, Stack, goal_of, outputs_of, op_of, args_of, brace_of, row_of, State, operand, after, output, output_read, outputs_shut, site_nests, outgoing_run, nests, in_row, in_index}
+use Rattle.pl_grammar.specs.Machine.{Pending, fresh, behind, Outgoing, fresh_outs, behind_outs, put, put_out, Site, Stack, goal_of, outputs_of, op_of, args_of, brace_of, row_of, State, operand, after, output, output_read, site_nests, outgoing_run, nests, in_row, in_index}
 use Rattle.pl_grammar.specs.Steps.{Held, room, reduce, onward, run, called, tgt_of, set_out, set_tgt, pass, element_outputs, behind_all, row_outputs, pending_outputs, Outlist, as_outputs}
 use Rattle.pl_grammar.specs.Steps as steps
-use Rattle.pl_grammar.proofs.Basics.{has_room, left_room, right_room, from_zero, Accepts, Stops}
+use Rattle.pl_grammar.proofs.Basics.{has_room, left_room, right_room, Accepts, Stops}
 use Rattle.pl_grammar.proofs.Reading.{Follows, read_ex, read_args, read_sign}
 
 -- a target, read as an expression
@@ -187,11 +185,11 @@ module _ (r : Rules) (m : Mark) (site : Site) (b : Block) where
       read_out_tgt (entire n) h l = refl
       read_out_tgt (indexed n i a z) h l =
           let opened : run r (output_read m q (to (entire n)) site b) (term w.Open i ∷ args a (term w.Close z ∷ ts)) ≡ run r (operand (args_of (head (alone n)) i fresh (outputs_of m q site b))) (args a (term w.Close z ∷ ts)) =
-            rw (h.0, has_room r (suc (nests (outputs_of m q site b))) (omega (arith, l))) refl in
+          rw (h.0, has_room r (suc (nests (outputs_of m q site b))) (omega (arith, l))) refl in
           opened ∙ read_args r a (head (alone n)) i (outputs_of m q site b) z ts h.1 (omega (arith, l))
       read_out_tgt (in_braces n i e z) h l =
           let opened : run r (output_read m q (to (entire n)) site b) (term w.OpenBrace i ∷ ex e (term w.CloseBrace z ∷ ts)) ≡ run r (operand (brace_of n i (outputs_of m q site b))) (ex e (term w.CloseBrace z ∷ ts)) =
-            rw (has_room r (suc (nests (outputs_of m q site b))) (omega (arith, l))) refl in
+          rw (has_room r (suc (nests (outputs_of m q site b))) (omega (arith, l))) refl in
           opened ∙ read_ex r e (brace_of n i (outputs_of m q site b)) (term w.CloseBrace z ∷ ts) h tt (omega (arith, l)) tt
   read_out q (skip k) ts h l = rw (has_room r (suc (outgoing_run q + suc (suc (site_nests site)))) (omega (arith, l))) refl
 
@@ -228,17 +226,17 @@ module _ (r : Rules) (m : Mark) (site : Site) (b : Block) where
       → Reached (beside os c o) st (λ ts. comma_words c (output_words o ts))
   advance os st (as_tgt p q ks e i h g el z) (written n) o a s l =
       let E : Reached (beside os (written n) o) (operand (chain m (behind (put p (value (wrap ks e))) (written n)) [] site b)) (λ ts. output_words o ts) =
-        enter_chain (behind (put p (value (wrap ks e))) (written n)) (behind_outs os (written n)) [] o (rw (row_is p q ks e os h g el) refl) refl tt a s (omega (arith, l)) in
+      enter_chain (behind (put p (value (wrap ks e))) (written n)) (behind_outs os (written n)) [] o (rw (row_is p q ks e os h g el) refl) refl tt a s (omega (arith, l)) in
       record { st = E.st; at = E.at; goes = λ ts f. ap (λ x. run r x (term w.Comma n ∷ output_words o ts)) i ∙ comma_tgt p ks e n (output_words o ts) ∙ E.goes ts f }
   advance os st (as_tgt p q ks e i h g el z) space o a s l =
       let E : Reached (beside os space o) (operand (chain m (behind (put p (value (wrap ks e))) space) [] site b)) (λ ts. output_words o ts) =
-        enter_chain (behind (put p (value (wrap ks e))) space) (behind_outs os space) [] o (rw (row_is p q ks e os h g el) refl) z tt a s (omega (arith, l)) in
+      enter_chain (behind (put p (value (wrap ks e))) space) (behind_outs os space) [] o (rw (row_is p q ks e os h g el) refl) z tt a s (omega (arith, l)) in
       record { st = E.st; at = E.at; goes = λ ts f. ap (λ x. run r x (output_words o ts)) i ∙ space_tgt p ks e o ts a ∙ E.goes ts f }
   advance os st (as_skip p q k ks i h z g e) (written n) o a s l = record {
     st = output_read m (behind_outs os (written n)) o site b;
     at = as_output (behind_outs os (written n)) o refl refl;
     goes = λ ts f. ap (λ x. run r x (term w.Comma n ∷ output_words o ts)) i ∙ comma_skip p q k ks n (output_words o ts) h g
-      ∙ ap (λ x. run r (output m (behind_outs x (written n)) site b) (output_words o ts)) e ∙ read_out (behind_outs os (written n)) o ts s (omega (arith, l));
+        ∙ ap (λ x. run r (output m (behind_outs x (written n)) site b) (output_words o ts)) e ∙ read_out (behind_outs os (written n)) o ts s (omega (arith, l));
   }
   advance os st (as_skip p q k ks i h z g e) space o a s l =
       let runs : run_of (put_out (chain_outs q ks) (skip k)) ≡ suc (length ks) = chain_run q (k ∷ ks) z in

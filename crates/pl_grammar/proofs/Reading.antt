@@ -1,25 +1,24 @@
 -- The machine reads the terminals of a sound expression, and has it as the operand then. By induction on the
 -- derivation, for all frames below that take it and all terminals that may follow it.
-use Rattle.std.proofs.Common.{◌≡◌, ◌∙◌, ℕ, suc, zero, ◌+◌, ◌≤◌, Bool, true, false, not, ◌&&◌, ◌||◌, if◌then◌else◌, Option, Some, None, List, [], ◌∷◌, length, Ok, Err, refl, ap, sym, arith}
-use Rattle.std.specs.Prelude.{nat_le, nat_eq, is_some, codes, max}
+use Rattle.std.proofs.Common.{◌≡◌, ◌∙◌, ℕ, suc, ◌+◌, ◌≤◌, Bool, true, false, not, ◌&&◌, if◌then◌else◌, Option, Some, None, List, [], ◌∷◌, length, Ok, refl, ap, arith}
+use Rattle.std.specs.Prelude.{nat_le, is_some, codes, max}
 use Rattle.pl_syntax.specs.declared.expr.Bin.{Bin}
 use Rattle.pl_syntax.specs.declared.expr.Bin.TheVariants as bin
 use Rattle.pl_grammar.specs.declared.terminal.Terminal.{Terminal}
 use Rattle.pl_grammar.specs.declared.terminal.Word.{Word}
 use Rattle.pl_grammar.specs.declared.terminal.Word.TheVariants as w
-use Rattle.pl_grammar.specs.declared.terminal.Keyword.TheVariants as k
-use Rattle.pl_grammar.specs.Words.{Mark, term, mark_of, Named, named, Additive, plus, minus, Sign, additive, tilde, bin_of, sign_word, additive_of, level, is_power, SepKind, comma, semicolon, line, Sep, dots, whole, stem, is_state}
-use Rattle.pl_grammar.specs.Derivations.{Head, alone, dotted, Signs, no_signs, more_signs, Comma, written, space, Trail, no_trail, trail, Ex, number, chars, bare, call, state, paren, rows, rows_to, func, last, under, transposed, Op, joined, signed, from, stepped, Callee, head, braced, Args, no_args, listed, Elements, one, also, Item, value, colon, Rows, no_rows, broken, filled}
-use Rattle.pl_grammar.specs.Spelling.{sep, head_words, signs, comma_words, trail_words, ex, op, callee, args, elements, item, row_words}
-use Rattle.pl_grammar.specs.Trees.{head_text, mark}
+use Rattle.pl_grammar.specs.Words.{Mark, term, Named, named, Additive, plus, minus, Sign, additive, tilde, bin_of, sign_word, additive_of, level, is_power, SepKind, comma, semicolon, line, Sep, is_state}
+use Rattle.pl_grammar.specs.Derivations.{Head, alone, dotted, Signs, no_signs, more_signs, written, space, Trail, no_trail, trail, Ex, number, chars, bare, call, state, paren, rows, rows_to, func, last, under, transposed, Op, joined, signed, from, stepped, Callee, head, braced, Args, no_args, listed, Elements, one, also, Item, value, colon, Rows, no_rows, broken, filled}
+use Rattle.pl_grammar.specs.Spelling.{sep, head_words, signs, trail_words, ex, op, callee, args, elements, item, row_words}
+use Rattle.pl_grammar.specs.Trees.{mark}
 use Rattle.pl_grammar.specs.Nesting.{count, weight, height, op_height, callee_height, args_height, elements_height, item_height, rows_height}
-use Rattle.pl_grammar.specs.Sound.{IsStem, IsHead, has_state, strength, wants, tightness, sticks, IsEven, IsTight, Leads, IsApart, signs_fit, IsRowBreak, IsSpaced, SoundEx, SoundOp, SoundCallee, SoundArgs, SoundElements, SoundItem, SoundRows}
+use Rattle.pl_grammar.specs.Sound.{IsStem, IsHead, has_state, strength, wants, tightness, sticks, signs_fit, IsRowBreak, IsSpaced, SoundEx, SoundOp, SoundCallee, SoundArgs, SoundElements, SoundItem, SoundRows}
 use Rattle.pl_grammar.specs.Programs.{Rules}
-use Rattle.pl_grammar.specs.Machine.{Pending, fresh, behind, put, Stack, goal_of, lead_of, inner_of, outputs_of, op_of, paren_of, args_of, brace_of, row_of, State, operand, after, coloned, torn, stemmed, dot, nests, in_row, in_index}
+use Rattle.pl_grammar.specs.Machine.{Pending, fresh, behind, put, Stack, goal_of, lead_of, inner_of, outputs_of, op_of, paren_of, args_of, brace_of, row_of, State, operand, after, coloned, torn, dot, nests, in_row, in_index}
 use Rattle.pl_grammar.specs.Steps.{Step, Held, roomy, room, reduce, onward, run, called, embraced, raise, begins_element}
 use Rattle.pl_grammar.specs.Steps as steps
-use Rattle.pl_grammar.proofs.Basics.{has_room, left_room, right_room, at_least, from_zero, level_most, level_jumps, strength_most, strength_wants, Accepts, accepts_more, sticks_next, parts, StopsAt, Stops, stops_more, additive_level, roomed, absorb}
-use Rattle.pl_grammar.proofs.Fore.{Fore, plainly, by_sign, sticks_fore, gap_next, gap_fore, fore_ex}
+use Rattle.pl_grammar.proofs.Basics.{has_room, left_room, right_room, level_jumps, strength_wants, Accepts, accepts_more, sticks_next, StopsAt, Stops, stops_more, additive_level, roomed, absorb}
+use Rattle.pl_grammar.proofs.Fore.{Fore, plainly, by_sign, gap_next, gap_fore, fore_ex}
 
 -- ---- operators on top that don't take the operand
 
@@ -182,6 +181,7 @@ module _ (r : Rules) where
       fits : (vs : Signs) → is_power o ≡ true → signs_fit o vs ≡ true
       fits no_signs g = refl
       fits (more_signs vs i t) g = g
+
       further : (t : Sign) → run r (operand (op_of (joined a o m us) S)) (term (sign_word t) n ∷ ts) ≡ run r (operand (op_of (joined a o m (more_signs us n t)) S)) ts
       further (additive d) = rw (additive_bin d, f, has_room r (suc (suc (count us) + nests S)) (omega (arith, l))) refl
       further tilde = rw (f, has_room r (suc (suc (count us) + nests S)) (omega (arith, l))) refl
@@ -234,8 +234,10 @@ module _ (r : Rules) where
     where
       seven : level o ≡ 7
       seven = additive_level o d e
+
       weak_seven : Accepts S (level o) → Weak S 7
       weak_seven q = weak S 7 (rw seven at q) (λ z. absurd (omega (arith, z)))
+
       by_row : (v : Bool) → (in_row S && m.gap) ≡ v → run r (after a S) (term (w.Binary o) m ∷ ts) ≡ run r (operand (op_of (joined a o m no_signs) S)) ts
       by_row false f = rw (e, f, stays (level o) a S (weak S (level o) h (level_jumps o)), has_room r (suc (height a + nests S)) l) refl
       by_row true f =
@@ -493,7 +495,7 @@ module _ (r : Rules) where
     read_ex (bare c) S ts h a l t = read_callee c S ts h a l
     read_ex (call c m g z) S ts h a l t =
         let opened : run r (after (bare c) S) (term w.Open m ∷ args g (term w.Close z ∷ ts)) ≡ run r (operand (args_of c m fresh S)) (args g (term w.Close z ∷ ts)) =
-          rw (h.1, has_room r (suc (nests S)) (omega (arith, right_room (callee_height c) (suc (args_height g)) (nests S) r.limit l))) refl in
+        rw (h.1, has_room r (suc (nests S)) (omega (arith, right_room (callee_height c) (suc (args_height g)) (nests S) r.limit l))) refl in
         read_callee c S (term w.Open m ∷ args g (term w.Close z ∷ ts)) h.0 a (left_room (callee_height c) (suc (args_height g)) (nests S) r.limit l)
         ∙ opened
         ∙ read_args g c m S z ts h.2 (omega (arith, right_room (callee_height c) (suc (args_height g)) (nests S) r.limit l))

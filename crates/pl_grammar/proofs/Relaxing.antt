@@ -1,31 +1,21 @@
 -- With more room a step is the same, but where only room was wanting; and a step by another word than `end`
 -- leaves open what an `end` has to end. First the forms of steps, and words where an operand has to come.
-use Rattle.std.proofs.Common.{◌≡◌, ◌∙◌, ℕ, suc, ◌+◌, Bool, true, false, not, ◌&&◌, if◌then◌else◌, Option, Some, None, List, [], ◌∷◌, length, Ok, Err, refl, ap, sym, subst, arith, ◌≤◌}
-use Rattle.std.specs.Prelude.{nat_le, nat_eq, leb, codes, max, is_some}
-use Rattle.std.proofs.Math.Nat.{le-max_left, le-max_right, max-eq_left, max-eq_right}
-use Rattle.std.specs.Cmp.{first_so, second_so}
-use Rattle.std.specs.Cmp.Lexicographic.{pointwise}
-use Rattle.std.proofs.lemmas.Bool.{leb-true, leb-false, le-leb}
-use Rattle.pl_syntax.specs.declared.expr.Bin.{Bin}
-use Rattle.pl_grammar.specs.declared.fault.FaultKind.{FaultKind}
+use Rattle.std.proofs.Common.{◌≡◌, ◌∙◌, ℕ, suc, Bool, true, false, ◌&&◌, if◌then◌else◌, Option, Some, None, Ok, Err, refl, ap, sym, subst, arith, ◌≤◌}
+use Rattle.std.specs.Prelude.{nat_le, max}
+use Rattle.std.proofs.Math.Nat.{le-max_left, le-max_right}
+use Rattle.std.proofs.lemmas.Bool.{leb-true, le-leb}
 use Rattle.pl_grammar.specs.declared.fault.FaultKind.TheVariants.{Unexpected, MissingEnd, TooDeep, FunctionTwice}
 use Rattle.pl_grammar.specs.Machine.{is_open, site_open, stack_open}
-use Rattle.pl_grammar.specs.declared.terminal.Terminal.{Terminal}
 use Rattle.pl_grammar.specs.declared.terminal.Word.{Word}
 use Rattle.pl_grammar.specs.declared.terminal.Word.TheVariants as w
-use Rattle.pl_grammar.specs.declared.terminal.Keyword.{Keyword}
-use Rattle.pl_grammar.specs.declared.terminal.Keyword.TheVariants as k
-use Rattle.pl_grammar.specs.Words.{Mark, term, mark_of, Named, named, Additive, bin_of, Sign, additive, tilde, sign_word, additive_of, level, is_power, SepKind, comma, semicolon, line, Sep, sep_word, Use, tests, loops, direct, plain, leaves, ends, defines, unused, use_of, is_link, follows, Dots, whole, stem, neither, dots, is_state}
-use Rattle.pl_grammar.specs.Derivations.{Head, alone, dotted, Signs, no_signs, more_signs, Comma, written, space, Trail, no_trail, trail, Ex, number, chars, bare, call, state, paren, rows, rows_to, func, last, under, transposed, Op, joined, signed, from, stepped, Callee, head, braced, Args, no_args, listed, Elements, one, also, Item, value, colon, Rows, no_rows, broken, filled, Tgt, entire, indexed, in_braces, Output, to, skip, Outputs, only, beside, Goal, shown, into, spread, Lead, test, each, Inner, each_in, bound, workers, Heading, upto, shut, no_value, Part, headed, unheaded, Smt, simple, delete, leave, compound, Block, empty, blank, statement, Opened, Param, taken, ignored, Params, Listing, no_params, params, Outs, no_outs, single, several, Given, no_list, given, Title, title, fun, Top, script, define, spaced, Prog, whole_of, unended}
-use Rattle.pl_grammar.specs.Trees.{head_mark, mark, op_mark, callee_mark, tgt_mark}
-use Rattle.pl_grammar.specs.Nesting.{count, weight, height, op_height, callee_height, args_height, elements_height, item_height, rows_height, tgt_height, output_height, skips, across, run_of, outputs_height, goal_height, inner_height, heading_height, part_height, smt_height, block_height, opened_height, fun_height, top_height, prog_height}
-use Rattle.pl_grammar.specs.Sound.{IsStem, IsHead, has_state, strength, wants, tightness, signs_stick, sticks, op_sticks, IsEven, IsTight, Leads, IsApart, signs_fit, IsRowBreak, IsSpaced, SoundEx, SoundOp, SoundCallee, SoundArgs, SoundElements, SoundItem, SoundRows, SoundTgt, SoundOutput, output_mark, IsOutputApart, SoundOutputs, SoundGoal, is_nothing, deletes, Scene, outermost, inside, may, SoundLead, SoundInner, SoundHeading, SoundPart, lead_word, inner_word, heading_word, part_word, opened_word, SoundSmt, SoundBlock, SoundOpened, IsNamed, AreNamed, ListsNames, SoundOuts, title_name, fun_name, has_function, SoundTitle, SoundFun, IsBehind, SoundTop, SoundProg}
+use Rattle.pl_grammar.specs.Words.{Mark, Named, Additive, Sign, additive, tilde, additive_of, is_power, semicolon, line, Sep}
+use Rattle.pl_grammar.specs.Derivations.{alone, dotted, more_signs, written, space, Ex, number, chars, bare, last, under, joined, signed, from, stepped, Callee, head, braced, Args, no_args, Rows, no_rows, broken, filled, skip, Outputs, shown, into, spread, Block}
+use Rattle.pl_grammar.specs.Sound.{strength}
 use Rattle.pl_grammar.specs.Programs.{Rules}
-use Rattle.pl_grammar.specs.Machine.{Pending, fresh, behind, Outgoing, fresh_outs, behind_outs, Waiting, fresh_params, behind_params, put, put_out, put_param, Site, main, body, within, Spot, here, linked, Stack, goal_of, lead_of, inner_of, outputs_of, op_of, paren_of, args_of, brace_of, row_of, Titling, begun_title, worded, outs_of, out_of, outs_shut, naming, entitled, params_of, param_of, titled, State, start, finished, operand, after, coloned, torn, at_sign, stemmed, dot, output, output_read, outputs_shut, loop, loop_in, index, index_in, ready, titling, between, spot_site, site_nests, outgoing_run, scene, enter, nests, in_row, in_index, beginning}
+use Rattle.pl_grammar.specs.Machine.{Pending, fresh, behind, Outgoing, fresh_outs, behind_outs, Site, Stack, goal_of, lead_of, inner_of, outputs_of, op_of, paren_of, args_of, brace_of, row_of, State, operand, after, at_sign, output, outputs_shut, nests, in_index}
 use Rattle.pl_grammar.specs.Steps
 use Rattle.pl_grammar.specs.Steps.{Step, Held, roomy, room, refused, reduce, run, step, onward, Answer, callee_tgt, tgt_of, set_out, set_tgt, pass, element_outputs, item_outputs, behind_all, row_outputs, pending_outputs, Outlist, as_outputs, called, embraced, read_operand, go_on, read_after, settle, ended}
 use Rattle.pl_grammar.proofs.Reading.{pick}
-use Rattle.pl_grammar.specs.Programs.{is_end_word}
 
 -- what a step is under more permissive rules
 abbrev pub Relates : Step → Step → Type 0
@@ -158,7 +148,7 @@ raise_lax v s m S h = lax_roomy v (suc (nests S)) (λ r. Ok (operand (op_of (sig
 
 sign_lax : (v : Bool) (s : Sign) (m : Mark) (S : Stack) → Stays v S → Lax v (λ r. Steps.sign r s m S)
 sign_lax v s m (op_of (joined a o n us) S) h = lax_if v (is_power o) (λ r. roomy (room r (suc (nests (op_of (joined a o n us) S)))) (Ok (operand (op_of (joined a o n (more_signs us m s)) S)))) (λ r. Steps.raise r s m (op_of (joined a o n us) S))
-  (λ e. lax_roomy v (suc (nests (op_of (joined a o n us) S))) (λ r. Ok (operand (op_of (joined a o n (more_signs us m s)) S))) (lax_const v (Ok (operand (op_of (joined a o n (more_signs us m s)) S))) h)) (λ e. raise_lax v s m (op_of (joined a o n us) S) h)
+    (λ e. lax_roomy v (suc (nests (op_of (joined a o n us) S))) (λ r. Ok (operand (op_of (joined a o n (more_signs us m s)) S))) (lax_const v (Ok (operand (op_of (joined a o n (more_signs us m s)) S))) h)) (λ e. raise_lax v s m (op_of (joined a o n us) S) h)
 sign_lax v s m (op_of (signed n t) S) h = raise_lax v s m (op_of (signed n t) S) h
 sign_lax v s m (op_of (from a n) S) h = raise_lax v s m (op_of (from a n) S) h
 sign_lax v s m (op_of (stepped a n b o) S) h = raise_lax v s m (op_of (stepped a n b o) S) h
@@ -187,6 +177,7 @@ outlist_open (op_of (signed m tilde) S) l h = by_below (λ x e. outlist_open S x
     by_set : (x : Outlist) (y : Option Outputs) → site_open x.site ≡ stack_open S → Steps.skip_in m x y ≡ Some l → site_open l.site ≡ stack_open S
     by_set x None e f = cc
     by_set x (Some os) e f = let i : record { mark = x.mark; outputs = behind_outs os space; site = x.site; block = x.block } ≡ l = cc in ap (λ y. site_open y.site) (sym i) ∙ e
+
     by_below : ((x : Outlist) → as_outputs S ≡ Some x → site_open x.site ≡ stack_open S) → (x : Option Outlist) → as_outputs S ≡ x → Steps.skip_onto m x ≡ Some l → site_open l.site ≡ stack_open S
     by_below ih None e f = cc
     by_below ih (Some x) e f = by_set x (set_out x.outputs m.gap (skip m)) (ih x e) f

@@ -1,26 +1,16 @@
 -- The titles of functions, where names that stand twice may be wanting, and then every step and run.
-use Rattle.std.proofs.Common.{◌≡◌, ◌∙◌, ℕ, suc, ◌+◌, Bool, true, false, not, ◌&&◌, if◌then◌else◌, Option, Some, None, List, [], ◌∷◌, length, Ok, Err, refl, ap, sym, subst, arith, ◌≤◌}
-use Rattle.std.specs.Prelude.{nat_le, nat_eq, leb, codes, max, is_some}
-use Rattle.std.proofs.Math.Nat.{le-max_left, le-max_right, max-eq_left, max-eq_right}
-use Rattle.std.specs.Cmp.{first_so, second_so}
-use Rattle.std.specs.Cmp.Lexicographic.{pointwise}
-use Rattle.std.proofs.lemmas.Bool.{leb-true, leb-false, le-leb}
-use Rattle.pl_syntax.specs.declared.expr.Bin.{Bin}
-use Rattle.pl_grammar.specs.declared.fault.FaultKind.{FaultKind}
+use Rattle.std.proofs.Common.{◌≡◌, ◌∙◌, ℕ, suc, Bool, true, false, not, ◌&&◌, if◌then◌else◌, None, List, [], ◌∷◌, length, Ok, Err, refl, sym, subst, ◌≤◌}
 use Rattle.pl_grammar.specs.declared.fault.FaultKind.TheVariants.{Unexpected, MissingEnd, TooDeep, FunctionTwice}
-use Rattle.pl_grammar.specs.Machine.{is_open, site_open, stack_open}
+use Rattle.pl_grammar.specs.Machine.{is_open, stack_open}
 use Rattle.pl_grammar.specs.declared.terminal.Terminal.{Terminal}
 use Rattle.pl_grammar.specs.declared.terminal.Word.{Word}
 use Rattle.pl_grammar.specs.declared.terminal.Word.TheVariants as w
-use Rattle.pl_grammar.specs.declared.terminal.Keyword.{Keyword}
 use Rattle.pl_grammar.specs.declared.terminal.Keyword.TheVariants as k
-use Rattle.pl_grammar.specs.Words.{Mark, term, mark_of, Named, named, Additive, bin_of, Sign, additive, tilde, sign_word, additive_of, level, is_power, SepKind, comma, semicolon, line, Sep, sep_word, Use, tests, loops, direct, plain, leaves, ends, defines, unused, use_of, is_link, follows, Dots, whole, stem, neither, dots, is_state}
-use Rattle.pl_grammar.specs.Derivations.{Head, alone, dotted, Signs, no_signs, more_signs, Comma, written, space, Trail, no_trail, trail, Ex, number, chars, bare, call, state, paren, rows, rows_to, func, last, under, transposed, Op, joined, signed, from, stepped, Callee, head, braced, Args, no_args, listed, Elements, one, also, Item, value, colon, Rows, no_rows, broken, filled, Tgt, entire, indexed, in_braces, Output, to, skip, Outputs, only, beside, Goal, shown, into, spread, Lead, test, each, Inner, each_in, bound, workers, Heading, upto, shut, no_value, Part, headed, unheaded, Smt, simple, delete, leave, compound, Block, empty, blank, statement, Opened, Param, taken, ignored, Params, Listing, no_params, params, Outs, no_outs, single, several, Given, no_list, given, Title, title, fun, Top, script, define, spaced, Prog, whole_of, unended}
-use Rattle.pl_grammar.specs.Trees.{head_mark, mark, op_mark, callee_mark, tgt_mark}
-use Rattle.pl_grammar.specs.Nesting.{count, weight, height, op_height, callee_height, args_height, elements_height, item_height, rows_height, tgt_height, output_height, skips, across, run_of, outputs_height, goal_height, inner_height, heading_height, part_height, smt_height, block_height, opened_height, fun_height, top_height, prog_height}
-use Rattle.pl_grammar.specs.Sound.{IsStem, IsHead, has_state, strength, wants, tightness, signs_stick, sticks, op_sticks, IsEven, IsTight, Leads, IsApart, signs_fit, IsRowBreak, IsSpaced, SoundEx, SoundOp, SoundCallee, SoundArgs, SoundElements, SoundItem, SoundRows, SoundTgt, SoundOutput, output_mark, IsOutputApart, SoundOutputs, SoundGoal, is_nothing, deletes, Scene, outermost, inside, may, SoundLead, SoundInner, SoundHeading, SoundPart, lead_word, inner_word, heading_word, part_word, opened_word, SoundSmt, SoundBlock, SoundOpened, IsNamed, AreNamed, ListsNames, SoundOuts, title_name, fun_name, has_function, SoundTitle, SoundFun, IsBehind, SoundTop, SoundProg}
+use Rattle.pl_grammar.specs.Words.{Mark, mark_of, Named}
+use Rattle.pl_grammar.specs.Derivations.{Ex, each, each_in, empty, statement, Params, Listing, Outs, no_outs, single, no_list, Title, title, Top, spaced, Prog}
+use Rattle.pl_grammar.specs.Sound.{has_function}
 use Rattle.pl_grammar.specs.Programs.{Rules}
-use Rattle.pl_grammar.specs.Machine.{Pending, fresh, behind, Outgoing, fresh_outs, behind_outs, Waiting, fresh_params, behind_params, put, put_out, put_param, Site, main, body, within, Spot, here, linked, Stack, goal_of, lead_of, inner_of, outputs_of, op_of, paren_of, args_of, brace_of, row_of, Titling, begun_title, worded, outs_of, out_of, outs_shut, naming, entitled, params_of, param_of, titled, State, start, finished, operand, after, coloned, torn, at_sign, stemmed, dot, output, output_read, outputs_shut, loop, loop_in, index, index_in, ready, titling, between, spot_site, site_nests, outgoing_run, scene, enter, nests, in_row, in_index, beginning}
+use Rattle.pl_grammar.specs.Machine.{Waiting, fresh_params, behind_params, main, body, within, Stack, goal_of, lead_of, inner_of, outputs_of, op_of, paren_of, args_of, brace_of, row_of, Titling, begun_title, worded, outs_of, out_of, outs_shut, naming, entitled, params_of, param_of, titled, State, start, finished, operand, after, coloned, torn, at_sign, stemmed, dot, output, output_read, outputs_shut, loop, loop_in, index, index_in, ready, titling, between}
 use Rattle.pl_grammar.specs.Steps
 use Rattle.pl_grammar.specs.Steps.{Step, Held, roomy, room, refused, reduce, run, step, onward, Answer, callee_tgt, tgt_of, set_out, set_tgt, pass, element_outputs, item_outputs, behind_all, row_outputs, pending_outputs, Outlist, as_outputs, called, embraced, read_operand, go_on, read_after, settle, ended}
 use Rattle.pl_grammar.specs.Programs.{is_end_word, has_end}
@@ -67,9 +57,11 @@ unique_becomes r q x st a = by_twice r.twice q.twice refl refl
     by_name : (y : Bool) → q.twice ≡ false → Becomes q (if y then Err FunctionTwice else Ok st) (if y then Err FunctionTwice else Ok st)
     by_name true h = h
     by_name false h = refl
+
     by_once : (y : Bool) → q.twice ≡ true → Becomes q (if y then Err FunctionTwice else Ok st) (Ok st)
     by_once true h = h
     by_once false h = refl
+
     by_twice : (u v : Bool) → r.twice ≡ u → q.twice ≡ v → Becomes q (if not u && x then Err FunctionTwice else Ok st) (if not v && x then Err FunctionTwice else Ok st)
     by_twice true true g h = refl
     by_twice true false g h = let i : r.twice ≡ false = a.1 h in let bad : true ≡ false = rw g at i in cc
@@ -305,8 +297,10 @@ wants_end r [] st p o h = by_state st o h
     by_stack (args_of c m q S) e i = refl
     by_stack (brace_of n m S) e i = refl
     by_stack (row_of m rs q S) e i = refl
+
     by_after : (e : Ex) (S : Stack) → stack_open S ≡ true → Steps.finish_with (after e S) (Steps.end_after (reduce 0 e S).operand (reduce 0 e S).stack) ≡ Ok p → has_end [] ≡ true
     by_after e S i f = let x : Steps.end_after (reduce 0 e S).operand (reduce 0 e S).stack ≡ None = by_stack (reduce 0 e S).stack (reduce 0 e S).operand (Rattle.pl_grammar.proofs.Relaxing.reduced_open 0 e S ∙ i) in let bad : Steps.unfinished (after e S) ≡ Ok p = rw x at f in cc
+
     by_state : (x : State) → is_open x ≡ true → Steps.finish x ≡ Ok p → has_end [] ≡ true
     by_state (start main b) i f = cc
     by_state (start (body t l s) b) i f = cc
@@ -323,6 +317,7 @@ wants_end r (t ∷ ts) st p o h = by_word (λ next i g. wants_end r ts next p i 
     by_next : (s : Step) → step r st t ≡ s → is_end_word t.word ≡ false → onward s (λ next. run r next ts) (suc (length ts)) ≡ Ok p → ((next : State) → is_open next ≡ true → run r next ts ≡ Ok p → has_end ts ≡ true) → has_end ts ≡ true
     by_next (Err f) e i g ih = cc
     by_next (Ok next) e i g ih = ih next (stays_open r st next t i o e) g
+
     by_word : ((next : State) → is_open next ≡ true → run r next ts ≡ Ok p → has_end ts ≡ true) → (v : Bool) → is_end_word t.word ≡ v → has_end (t ∷ ts) ≡ true
     by_word ih true e = rw e refl
     by_word ih false e = rw e (by_next (step r st t) refl e h ih)

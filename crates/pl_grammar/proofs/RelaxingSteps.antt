@@ -1,31 +1,22 @@
 -- With more room each step is the same, but where only room was wanting.
-use Rattle.std.proofs.Common.{◌≡◌, ◌∙◌, ℕ, suc, ◌+◌, Bool, true, false, not, ◌&&◌, if◌then◌else◌, Option, Some, None, List, [], ◌∷◌, length, Ok, Err, refl, ap, sym, subst, arith, ◌≤◌}
-use Rattle.std.specs.Prelude.{nat_le, nat_eq, leb, codes, max, is_some}
-use Rattle.std.proofs.Math.Nat.{le-max_left, le-max_right, max-eq_left, max-eq_right}
-use Rattle.std.specs.Cmp.{first_so, second_so}
-use Rattle.std.specs.Cmp.Lexicographic.{pointwise}
-use Rattle.std.proofs.lemmas.Bool.{leb-true, leb-false, le-leb}
+use Rattle.std.proofs.Common.{◌≡◌, ℕ, suc, ◌+◌, Bool, true, false, ◌&&◌, if◌then◌else◌, Option, Some, None, Ok, refl}
 use Rattle.pl_syntax.specs.declared.expr.Bin.{Bin}
-use Rattle.pl_grammar.specs.declared.fault.FaultKind.{FaultKind}
-use Rattle.pl_grammar.specs.declared.fault.FaultKind.TheVariants.{Unexpected, MissingEnd, TooDeep, FunctionTwice}
-use Rattle.pl_grammar.specs.Machine.{is_open, site_open, stack_open}
-use Rattle.pl_grammar.specs.declared.terminal.Terminal.{Terminal}
+use Rattle.pl_grammar.specs.Machine.{is_open, site_open}
 use Rattle.pl_grammar.specs.declared.terminal.Word.{Word}
 use Rattle.pl_grammar.specs.declared.terminal.Word.TheVariants as w
 use Rattle.pl_grammar.specs.declared.terminal.Keyword.{Keyword}
 use Rattle.pl_grammar.specs.declared.terminal.Keyword.TheVariants as k
-use Rattle.pl_grammar.specs.Words.{Mark, term, mark_of, Named, named, Additive, bin_of, Sign, additive, tilde, sign_word, additive_of, level, is_power, SepKind, comma, semicolon, line, Sep, sep_word, Use, tests, loops, direct, plain, leaves, ends, defines, unused, use_of, is_link, follows, Dots, whole, stem, neither, dots, is_state}
-use Rattle.pl_grammar.specs.Derivations.{Head, alone, dotted, Signs, no_signs, more_signs, Comma, written, space, Trail, no_trail, trail, Ex, number, chars, bare, call, state, paren, rows, rows_to, func, last, under, transposed, Op, joined, signed, from, stepped, Callee, head, braced, Args, no_args, listed, Elements, one, also, Item, value, colon, Rows, no_rows, broken, filled, Tgt, entire, indexed, in_braces, Output, to, skip, Outputs, only, beside, Goal, shown, into, spread, Lead, test, each, Inner, each_in, bound, workers, Heading, upto, shut, no_value, Part, headed, unheaded, Smt, simple, delete, leave, compound, Block, empty, blank, statement, Opened, Param, taken, ignored, Params, Listing, no_params, params, Outs, no_outs, single, several, Given, no_list, given, Title, title, fun, Top, script, define, spaced, Prog, whole_of, unended}
+use Rattle.pl_grammar.specs.Words.{Mark, Named, Additive, bin_of, additive, additive_of, level, SepKind, comma, semicolon, line, Sep, Use, tests, loops, direct, plain, leaves, ends, defines, unused, use_of, Dots, whole, stem, neither, dots, is_state}
+use Rattle.pl_grammar.specs.Derivations.{Head, alone, dotted, no_signs, written, space, no_trail, trail, Ex, number, bare, state, rows_to, transposed, joined, signed, from, stepped, head, braced, listed, value, colon, no_rows, broken, filled, Tgt, entire, indexed, in_braces, Output, to, skip, Outputs, shown, into, spread, test, each_in, bound, workers, Heading, upto, shut, no_value, Part, headed, unheaded, leave, Block, empty, blank}
 use Rattle.pl_grammar.specs.Trees.{head_mark, mark, op_mark, callee_mark, tgt_mark}
-use Rattle.pl_grammar.specs.Nesting.{count, weight, height, op_height, callee_height, args_height, elements_height, item_height, rows_height, tgt_height, output_height, skips, across, run_of, outputs_height, goal_height, inner_height, heading_height, part_height, smt_height, block_height, opened_height, fun_height, top_height, prog_height}
-use Rattle.pl_grammar.specs.Sound.{IsStem, IsHead, has_state, strength, wants, tightness, signs_stick, sticks, op_sticks, IsEven, IsTight, Leads, IsApart, signs_fit, IsRowBreak, IsSpaced, SoundEx, SoundOp, SoundCallee, SoundArgs, SoundElements, SoundItem, SoundRows, SoundTgt, SoundOutput, output_mark, IsOutputApart, SoundOutputs, SoundGoal, is_nothing, deletes, Scene, outermost, inside, may, SoundLead, SoundInner, SoundHeading, SoundPart, lead_word, inner_word, heading_word, part_word, opened_word, SoundSmt, SoundBlock, SoundOpened, IsNamed, AreNamed, ListsNames, SoundOuts, title_name, fun_name, has_function, SoundTitle, SoundFun, IsBehind, SoundTop, SoundProg}
+use Rattle.pl_grammar.specs.Nesting.{height}
+use Rattle.pl_grammar.specs.Sound.{has_state, may}
 use Rattle.pl_grammar.specs.Programs.{Rules}
-use Rattle.pl_grammar.specs.Machine.{Pending, fresh, behind, Outgoing, fresh_outs, behind_outs, Waiting, fresh_params, behind_params, put, put_out, put_param, Site, main, body, within, Spot, here, linked, Stack, goal_of, lead_of, inner_of, outputs_of, op_of, paren_of, args_of, brace_of, row_of, Titling, begun_title, worded, outs_of, out_of, outs_shut, naming, entitled, params_of, param_of, titled, State, start, finished, operand, after, coloned, torn, at_sign, stemmed, dot, output, output_read, outputs_shut, loop, loop_in, index, index_in, ready, titling, between, spot_site, site_nests, outgoing_run, scene, enter, nests, in_row, in_index, beginning}
+use Rattle.pl_grammar.specs.Machine.{fresh, behind, Outgoing, behind_outs, put, put_out, Site, main, body, within, Spot, here, linked, Stack, goal_of, lead_of, inner_of, outputs_of, op_of, paren_of, args_of, brace_of, row_of, State, start, finished, operand, after, torn, dot, output, output_read, outputs_shut, loop, ready, spot_site, site_nests, outgoing_run, scene, enter, nests, in_row}
 use Rattle.pl_grammar.specs.Steps
 use Rattle.pl_grammar.specs.Steps.{Step, Held, roomy, room, refused, reduce, run, step, onward, Answer, callee_tgt, tgt_of, set_out, set_tgt, pass, element_outputs, item_outputs, behind_all, row_outputs, pending_outputs, Outlist, as_outputs, called, embraced, read_operand, go_on, read_after, settle, ended}
-use Rattle.pl_grammar.proofs.Reading.{pick}
 use Rattle.pl_grammar.specs.Programs.{is_end_word}
-use Rattle.pl_grammar.proofs.Relaxing.{Relates, Allows, Lax, Tame, lax_const, lax_roomy, lax_if, tame_if, Stays, stays_reduced, called_tame, embraced_tame, operand_lax}
+use Rattle.pl_grammar.proofs.Relaxing.{Lax, Tame, lax_const, lax_roomy, lax_if, tame_if, Stays, stays_reduced, called_tame, embraced_tame, operand_lax}
 
 -- ---- an operand has come
 
@@ -38,7 +29,7 @@ join_lax v e S o m h = room_const v (suc (height e + nests S)) (operand (op_of (
 operator_lax : (v : Bool) (o : Bin) (ad : Option Additive) (m : Mark) (e : Ex) (S : Stack) → Stays v S → Lax v (λ r. Steps.operator r o ad m e S)
 operator_lax v o None m e S h = join_lax v (reduce (level o) e S).operand (reduce (level o) e S).stack o m (stays_reduced v (level o) e S h)
 operator_lax v o (Some a) m e S h = lax_if v (in_row S && m.gap) (λ r. Steps.tear r e a m S (reduce 0 e S).stack) (λ r. Steps.join r (reduce (level o) e S).operand (reduce (level o) e S).stack o m)
-  (λ q. room_const v (suc (nests (reduce 0 e S).stack)) (torn e a m S) h) (λ q. join_lax v (reduce (level o) e S).operand (reduce (level o) e S).stack o m (stays_reduced v (level o) e S h))
+    (λ q. room_const v (suc (nests (reduce 0 e S).stack)) (torn e a m S) h) (λ q. join_lax v (reduce (level o) e S).operand (reduce (level o) e S).stack o m (stays_reduced v (level o) e S h))
 
 transpose_lax : (v : Bool) (m : Mark) (e : Ex) (S : Stack) → Stays v S → Lax v (λ r. Steps.transpose r m e S)
 transpose_lax v m e S h = room_const v (suc (height e + nests S)) (after (transposed e m) S) h
@@ -198,15 +189,15 @@ apart_lax v e (brace_of o q S) go h f' = lax_const v refused tt
 
 pub after_lax : (v : Bool) (word : Word) (m : Mark) (e : Ex) (S : Stack) → Stays v S → Lax v (λ r. read_after r word m e S)
 after_lax v word m e S h = lax_if v (Steps.begins_element word S && (in_row S && m.gap)) (λ r. Steps.apart (reduce 0 e S).operand (reduce 0 e S).stack (λ row. read_operand r word m row)) (λ r. go_on r word m e S)
-  (λ q. apart_lax v (reduce 0 e S).operand (reduce 0 e S).stack (λ r row. read_operand r word m row) (stays_reduced v 0 e S h) (λ T i. operand_lax v word m T i)) (λ q. go_on_lax v word m e S h)
+    (λ q. apart_lax v (reduce 0 e S).operand (reduce 0 e S).stack (λ r row. read_operand r word m row) (stays_reduced v 0 e S h) (λ T i. operand_lax v word m T i)) (λ q. go_on_lax v word m e S h)
 
 pub untear_lax : (v : Bool) (e : Ex) (a : Additive) (n : Mark) (S : Stack) (word : Word) (m : Mark) → Stays v S → Lax v (λ r. Steps.untear r e a n S word m)
 untear_lax v e a n S word m h =
     let T : Stack = (reduce 7 e S).stack in
     let x : Ex = (reduce 7 e S).operand in
     lax_if v m.gap (λ r. roomy (room r (suc (height x + nests T))) (read_operand r word m (op_of (joined x (bin_of a) n no_signs) T))) (λ r. Steps.apart (reduce 0 e S).operand (reduce 0 e S).stack (λ row. read_operand r word m (op_of (signed n (additive a)) row)))
-      (λ q. lax_roomy v (suc (height x + nests T)) (λ r. read_operand r word m (op_of (joined x (bin_of a) n no_signs) T)) (operand_lax v word m (op_of (joined x (bin_of a) n no_signs) T) (stays_reduced v 7 e S h)))
-      (λ q. apart_lax v (reduce 0 e S).operand (reduce 0 e S).stack (λ r row. read_operand r word m (op_of (signed n (additive a)) row)) (stays_reduced v 0 e S h) (λ U i. operand_lax v word m (op_of (signed n (additive a)) U) i))
+    (λ q. lax_roomy v (suc (height x + nests T)) (λ r. read_operand r word m (op_of (joined x (bin_of a) n no_signs) T)) (operand_lax v word m (op_of (joined x (bin_of a) n no_signs) T) (stays_reduced v 7 e S h)))
+    (λ q. apart_lax v (reduce 0 e S).operand (reduce 0 e S).stack (λ r row. read_operand r word m (op_of (signed n (additive a)) row)) (stays_reduced v 0 e S h) (λ U i. operand_lax v word m (op_of (signed n (additive a)) U) i))
 
 -- ---- names
 
@@ -389,7 +380,7 @@ use_lax v unused word m site b e i h = lax_const v refused tt
 
 begin_lax : (v : Bool) (word : Word) (m : Mark) (site : Site) (b : Block) → (v ≡ true → site_open site ≡ true) → Lax v (λ r. Steps.begin r word m site b)
 begin_lax v word m site b h = lax_if v (scene site).holds (λ r. roomy (room r (suc (site_nests site))) (read_operand r word m (goal_of shown site b))) (λ r. refused)
-  (λ q. lax_roomy v (suc (site_nests site)) (λ r. read_operand r word m (goal_of shown site b)) (operand_lax v word m (goal_of shown site b) h)) (λ q. lax_const v refused tt)
+    (λ q. lax_roomy v (suc (site_nests site)) (λ r. read_operand r word m (goal_of shown site b)) (operand_lax v word m (goal_of shown site b) h)) (λ q. lax_const v refused tt)
 
 pub start_lax : (v : Bool) (word : Word) (m : Mark) (site : Site) (b : Block) → (is_end_word word ≡ true → v ≡ false) → (v ≡ true → site_open site ≡ true) → Lax v (λ r. Steps.read_start r word m site b)
 start_lax v w.Comma m site b i h = lax_const v (Ok (start site (blank b (record { kind = comma; mark = m })))) h

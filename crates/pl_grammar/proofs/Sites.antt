@@ -1,11 +1,11 @@
 -- What holds of each state that the machine reaches: what has been read is sound, and there is room for it.
-use Rattle.std.proofs.Common.{◌≡◌, ℕ, suc, ◌+◌, ◌≤◌, Bool, true, false, not, ◌&&◌, Option, Some, None, List, Ok, Err, refl}
+use Rattle.std.proofs.Common.{◌≡◌, ℕ, suc, ◌+◌, ◌≤◌, Bool, true, false, not, ◌&&◌, List, Ok, Err}
 use Rattle.pl_grammar.specs.declared.terminal.Keyword.{Keyword}
 use Rattle.pl_grammar.specs.Words.{Mark, Named, loops, use_of, is_link, follows}
-use Rattle.pl_grammar.specs.Derivations.{alone, no_signs, more_signs, Comma, written, space, Ex, bare, call, Op, joined, signed, from, stepped, Callee, head, dotted, braced, Elements, Output, to, entire, Outputs, Heading, Part, Block, Params, Listing, Title, title, Top}
-use Rattle.pl_grammar.specs.Trees.{head_mark, mark, op_mark, callee_mark}
+use Rattle.pl_grammar.specs.Derivations.{alone, no_signs, more_signs, Comma, written, space, Ex, bare, call, Op, joined, signed, from, stepped, Callee, head, dotted, braced, Output, to, entire, Block, Top}
+use Rattle.pl_grammar.specs.Trees.{head_mark, mark, callee_mark}
 use Rattle.pl_grammar.specs.Nesting.{weight, height, op_height, callee_height, elements_height, rows_height, output_height, outputs_height, goal_height, inner_height, heading_height, smt_height, block_height, opened_height, top_height}
-use Rattle.pl_grammar.specs.Sound.{IsStem, has_state, strength, tightness, signs_stick, sticks, op_sticks, IsEven, IsTight, SoundEx, SoundOp, SoundCallee, SoundElements, SoundRows, SoundOutput, IsOutputApart, SoundOutputs, SoundGoal, inside, may, SoundLead, SoundInner, SoundHeading, lead_word, inner_word, heading_word, opened_word, SoundSmt, SoundBlock, SoundOpened, AreNamed, ListsNames, SoundOuts, title_name, has_function, SoundTitle, IsBehind, SoundTop}
+use Rattle.pl_grammar.specs.Sound.{IsStem, has_state, strength, tightness, signs_stick, sticks, IsEven, IsTight, SoundEx, SoundOp, SoundCallee, SoundElements, SoundRows, SoundOutput, IsOutputApart, SoundOutputs, SoundGoal, inside, may, SoundLead, SoundInner, SoundHeading, lead_word, inner_word, heading_word, opened_word, SoundSmt, SoundBlock, SoundOpened, AreNamed, ListsNames, SoundOuts, title_name, has_function, SoundTitle, IsBehind, SoundTop}
 use Rattle.pl_grammar.specs.Programs.{Rules}
 use Rattle.pl_grammar.specs.Machine.{Pending, fresh, behind, Outgoing, fresh_outs, behind_outs, Waiting, fresh_params, behind_params, Site, main, body, within, Spot, here, linked, Stack, goal_of, lead_of, inner_of, outputs_of, op_of, paren_of, args_of, brace_of, row_of, Titling, begun_title, worded, outs_of, out_of, outs_shut, naming, entitled, params_of, param_of, titled, State, start, finished, operand, after, coloned, torn, at_sign, stemmed, dot, output, output_read, outputs_shut, loop, loop_in, index, index_in, ready, titling, between, site_nests, spot_site, outgoing_run, nests, in_row, in_index, scene}
 use Rattle.pl_grammar.specs.Steps.{Step, reduce}

@@ -1,25 +1,25 @@
 -- The machine reads the terminals of each sound program.
-use Rattle.std.proofs.Common.{◌≡◌, ◌∙◌, ℕ, suc, zero, ◌+◌, ◌≤◌, Bool, true, false, not, ◌&&◌, if◌then◌else◌, Option, Some, None, List, [], ◌∷◌, length, Ok, Err, refl, ap, sym, subst, arith}
-use Rattle.std.specs.Prelude.{nat_le, max}
+use Rattle.std.proofs.Common.{◌≡◌, ◌∙◌, suc, ◌+◌, ◌≤◌, Bool, true, false, not, ◌&&◌, Some, List, [], ◌∷◌, Ok, refl, ap, sym, arith}
+use Rattle.std.specs.Prelude.{max}
 use Rattle.pl_grammar.specs.declared.terminal.Terminal.{Terminal}
 use Rattle.pl_grammar.specs.declared.terminal.Word.{Word}
 use Rattle.pl_grammar.specs.declared.terminal.Word.TheVariants as w
 use Rattle.pl_grammar.specs.declared.terminal.Keyword.{Keyword}
 use Rattle.pl_grammar.specs.declared.terminal.Keyword.TheVariants as k
-use Rattle.pl_grammar.specs.Words.{Mark, term, Named, named, bin_of, SepKind, comma, semicolon, line, Sep, Use, tests, loops, direct, plain, leaves, use_of, is_link, follows}
-use Rattle.pl_grammar.specs.Derivations.{alone, no_args, listed, Ex, bare, call, rows, rows_to, head, braced, no_rows, no_trail, Tgt, entire, indexed, in_braces, Goal, shown, into, spread, Lead, test, each, Inner, each_in, bound, workers, Heading, upto, shut, no_value, Part, headed, unheaded, Smt, simple, delete, leave, compound, Block, empty, blank, statement, Opened, first, next, Param, taken, ignored, Params, lone, further, Listing, no_params, params, Outs, no_outs, single, several, Given, no_list, given, Title, title, Fun, fun, Top, script, define, spaced, Prog, whole_of, unended}
-use Rattle.pl_grammar.specs.Spelling.{sep, ex, args, tgt, goal, outputs, lead, inner, heading, part, smt, block, opened, param, param_words, listing, outs_words, given_words, title_words, fun_words, top, prog}
+use Rattle.pl_grammar.specs.Words.{Mark, term, Named, named, SepKind, comma, semicolon, line, Sep, tests, loops, direct, plain, use_of, is_link, follows}
+use Rattle.pl_grammar.specs.Derivations.{Ex, rows, no_rows, entire, indexed, in_braces, Goal, shown, into, spread, Lead, test, each, each_in, bound, workers, Heading, upto, shut, no_value, Part, headed, unheaded, Smt, simple, delete, leave, compound, Block, empty, blank, statement, Opened, first, next, taken, ignored, Params, lone, further, no_params, params, Outs, no_outs, single, several, Given, no_list, given, Title, title, fun, Top, script, define, spaced, Prog, whole_of, unended}
+use Rattle.pl_grammar.specs.Spelling.{sep, ex, goal, outputs, heading, part, smt, block, opened, param_words, outs_words, given_words, top, prog}
 use Rattle.pl_grammar.specs.Trees.{mark}
-use Rattle.pl_grammar.specs.Nesting.{height, args_height, tgt_height, outputs_height, goal_height, heading_height, inner_height, part_height, smt_height, block_height, opened_height, fun_height, top_height, prog_height}
-use Rattle.pl_grammar.specs.Sound.{tightness, sticks, SoundEx, SoundArgs, SoundTgt, SoundGoal, is_nothing, deletes, Scene, outermost, inside, may, SoundHeading, SoundPart, heading_word, part_word, opened_word, SoundSmt, SoundBlock, SoundOpened, AreNamed, ListsNames, SoundOuts, has_function, title_name, fun_name, SoundTitle, SoundFun, IsBehind, SoundTop, SoundProg}
+use Rattle.pl_grammar.specs.Nesting.{height, goal_height, heading_height, part_height, smt_height, block_height, opened_height, top_height, prog_height}
+use Rattle.pl_grammar.specs.Sound.{tightness, sticks, SoundEx, SoundGoal, deletes, Scene, outermost, SoundHeading, SoundPart, heading_word, part_word, opened_word, SoundSmt, SoundBlock, SoundOpened, AreNamed, SoundOuts, has_function, SoundFun, IsBehind, SoundTop, SoundProg}
 use Rattle.pl_grammar.specs.Programs.{Rules}
-use Rattle.pl_grammar.specs.Machine.{fresh, fresh_params, behind_params, Waiting, put_param, Site, main, body, within, Spot, here, linked, Stack, goal_of, lead_of, inner_of, args_of, row_of, begun_title, worded, outs_of, out_of, outs_shut, naming, entitled, params_of, param_of, titled, State, start, finished, operand, after, loop, loop_in, index, index_in, ready, titling, between, beginning, site_nests, spot_site, nests, scene, enter}
+use Rattle.pl_grammar.specs.Machine.{fresh, fresh_params, Site, main, body, within, Spot, here, linked, goal_of, lead_of, inner_of, row_of, begun_title, worded, outs_of, out_of, entitled, params_of, param_of, titled, State, start, finished, operand, after, loop, ready, titling, between, beginning, site_nests, spot_site, scene, enter}
 use Rattle.pl_grammar.specs.Steps.{Step, Answer, roomy, room, onward, run, begins_element, settle, spot_of}
 use Rattle.pl_grammar.specs.Steps as steps
-use Rattle.pl_grammar.proofs.Basics.{has_room, left_room, right_room, Stops}
+use Rattle.pl_grammar.proofs.Basics.{has_room, left_room, right_room}
 use Rattle.pl_grammar.proofs.Fore.{Fore, plainly, by_sign, fore_ex}
-use Rattle.pl_grammar.proofs.Reading.{Follows, read_ex, read_args}
-use Rattle.pl_grammar.proofs.Outputs.{tgt_ex, tgt_of_ex, tgt_words, sound_tgt, tgt_ex_height, tgt_ex_tight, read_spread}
+use Rattle.pl_grammar.proofs.Reading.{Follows, read_ex}
+use Rattle.pl_grammar.proofs.Outputs.{tgt_ex, tgt_of_ex, tgt_words, sound_tgt, tgt_ex_height, read_spread}
 
 module _ (r : Rules) where
   -- ---- single steps
@@ -82,7 +82,7 @@ module _ (r : Rules) where
   read_goal (spread m os z q) site b e ts h g s l =
       let X : List Terminal = outputs os (term w.CloseSquare z ∷ term w.Equal q ∷ ex e ts) in
       let opened : run r (start site b) (term w.OpenSquare m ∷ X) ≡ run r (operand (row_of m no_rows fresh (goal_of shown site b))) X =
-        rw (h, has_room r (suc (site_nests site)) (omega (arith, l)), has_room r (suc (suc (site_nests site))) (omega (arith, l))) refl in
+      rw (h, has_room r (suc (site_nests site)) (omega (arith, l)), has_room r (suc (suc (site_nests site))) (omega (arith, l))) refl in
       opened ∙ read_spread r m site b os z q (ex e ts) g (omega (arith, l))
 
   -- a statement that has been read up to its separator

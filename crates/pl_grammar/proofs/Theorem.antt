@@ -1,5 +1,5 @@
 -- The answer of the machine is the program of the terminals, or their fault, and there is one.
-use Rattle.std.proofs.Common.{◌≡◌, ◌∙◌, ℕ, suc, zero, ◌+◌, ◌-◌, ◌<◌, ◌≤◌, Bool, true, false, not, ◌&&◌, ◌⊎◌, if◌then◌else◌, Option, Some, None, List, [], ◌∷◌, ◌++◌, length, take, drop, Ok, Err, refl, ap, sym, subst, arith, append_assoc}
+use Rattle.std.proofs.Common.{◌≡◌, ◌∙◌, ℕ, suc, zero, ◌+◌, ◌-◌, ◌<◌, ◌≤◌, Bool, true, false, not, ◌&&◌, ◌⊎◌, if◌then◌else◌, Option, Some, None, List, [], ◌∷◌, ◌++◌, length, take, Ok, Err, refl, ap, sym, subst, arith, append_assoc}
 use Rattle.std.specs.Prelude.{max}
 use Rattle.std.proofs.Common.{inl, inr}
 use Rattle.std.proofs.Math.Nat.{le-max_left, le-max_right}
@@ -9,8 +9,7 @@ use Rattle.pl_syntax.specs.declared.stmt.Program.{Program}
 use Rattle.pl_grammar.specs.declared.fault.FaultKind.{FaultKind}
 use Rattle.pl_grammar.specs.declared.fault.FaultKind.TheVariants.{Unexpected, MissingEnd, TooDeep, FunctionTwice}
 use Rattle.pl_grammar.specs.declared.terminal.Terminal.{Terminal}
-use Rattle.pl_grammar.specs.Derivations.{Prog, whole_of, unended, Top, script, define, spaced, Fun}
-use Rattle.pl_grammar.specs.Spelling.{prog}
+use Rattle.pl_grammar.specs.Derivations.{Prog, whole_of, unended, Top, script, define, spaced}
 use Rattle.pl_grammar.specs.Trees.{program_of}
 use Rattle.pl_grammar.specs.Nesting.{prog_height}
 use Rattle.pl_grammar.specs.Sound.{has_function, fun_name, SoundTop, SoundProg}
@@ -162,6 +161,7 @@ deeper limit st t e = by_step (step (strict more) st t) refl
   where
     more : ℕ
     more = max limit (room_for st t)
+
     by_step : (s : Step) → step (strict more) st t ≡ s → (m : ℕ) × ((limit ≤ m) × ((next : State) × (step (strict m) st t ≡ Ok next)))
     by_step (Ok next) f = (more, (le-max_left limit (room_for st t), (next, f)))
     by_step (Err TooDeep) f = absurd (roomy_step (strict more) st t (le-max_right limit (room_for st t)) f)
@@ -186,6 +186,7 @@ double limit st t e = by_step (step (record { limit = limit; twice = true }) st 
   where
     q : Rules
     q = record { limit = limit; twice = true }
+
     by_step : (s : Step) → step (record { limit = limit; twice = true }) st t ≡ s → (next : State) × (step (record { limit = limit; twice = true }) st t ≡ Ok next)
     by_step (Ok next) f = (next, f)
     by_step (Err FunctionTwice) f = let x : Becomes (record { limit = limit; twice = true }) (Err FunctionTwice) (Err FunctionTwice) = rw (e, f) at (relaxed (strict limit) (record { limit = limit; twice = true }) st t (omega arith, λ h. refl)) in let bad : true ≡ false = x in cc
@@ -212,26 +213,30 @@ explained limit pre next t FunctionTwice h e rest =
     let w : walk (double_rules limit) beginning pre ≡ Ok next = walk_relaxed (strict limit) (double_rules limit) pre beginning next (omega arith, λ q. refl) h in
     (omega (arith, length-append pre (t ∷ rest)), subst (λ x. Begins (double_rules limit) x) (sym (cut_one pre t rest)) (begins (double_rules limit) (pre ++ t ∷ []) d.0 (walk_on (double_rules limit) pre beginning next d.0 t w d.1)))
 explained limit pre next t MissingEnd h e rest = absurd (no_missing (strict limit) next t e)
-explained limit pre next t Unexpected h e rest =
-    ((λ l more b.
+explained limit pre next t Unexpected h e rest = (
+  (λ l more b.
       let q : Rules = double_rules (max limit more) in
       let c : Begins q (take (suc (length pre)) (pre ++ (t ∷ rest))) = begins_relaxed (double_rules more) q (take (suc (length pre)) (pre ++ (t ∷ rest))) (le-max_right limit more, λ x. x) b in
       let d : Begins q (pre ++ t ∷ []) = subst (λ x. Begins q x) (cut_one pre t rest) c in
       let w : walk q beginning pre ≡ Ok next = walk_relaxed (strict limit) q pre beginning next (le-max_left limit more, λ x. refl) h in
       no_begin q pre next t Unexpected w (never limit q next t (le-max_left limit more) e) d),
-    (λ l. absurd (omega (arith, l, length-append pre (t ∷ rest)))))
+  (λ l. absurd (omega (arith, l, length-append pre (t ∷ rest)))),
+)
 
 -- the explanation, where the terminals are at their end
 ended_so : (limit : ℕ) (ts : List Terminal) (next : State) (v : Bool) → is_open next ≡ v → walk (strict limit) beginning ts ≡ Ok next → Explains limit (if v then MissingEnd else Unexpected) ts (length ts)
-ended_so limit ts next true o h =
-    (refl, λ more program x.
+ended_so limit ts next true o h = (
+  refl,
+  λ more program x.
       let a : run (strict limit) beginning (ts ++ more) ≡ Ok x.rules = answered (strict limit) (ts ++ more) program x in
-      wants_end (strict limit) more next x.rules o (sym (walk_run (strict limit) ts more beginning next h) ∙ a))
-ended_so limit ts next false o h =
-    ((λ l more b. absurd (omega (arith, l))),
-    (λ l.
+      wants_end (strict limit) more next x.rules o (sym (walk_run (strict limit) ts more beginning next h) ∙ a),
+)
+ended_so limit ts next false o h = (
+  (λ l more b. absurd (omega (arith, l))),
+  (λ l.
       let c : Closes (strict limit) next = closing (strict limit) next (walk_good (strict limit) ts beginning next (good_beginning (strict limit)) h) in
-      record { more = c.more; program = program_of c.program; parses = found (strict limit) (ts ++ c.more) c.program (walk_run (strict limit) ts c.more beginning next h ∙ c.ends); endless = c.endless o }))
+      record { more = c.more; program = program_of c.program; parses = found (strict limit) (ts ++ c.more) c.program (walk_run (strict limit) ts c.more beginning next h ∙ c.ends); endless = c.endless o }),
+)
 
 append_none : (ts : List Terminal) → ts ++ [] ≡ ts
 append_none [] = refl
@@ -315,7 +320,7 @@ exclusive limit more pre next t TooDeep h e b c =
 exclusive limit more pre next t FunctionTwice h e b c =
     let m : ℕ = max limit more in
     no_begin (strict m) pre next t FunctionTwice (walk_relaxed (strict limit) (strict m) pre beginning next (le-max_left limit more, λ q. q) h) (still_twice limit m next t (le-max_left limit more) e)
-      (begins_relaxed (strict more) (strict m) (pre ++ t ∷ []) (le-max_right limit more, λ q. q) b)
+    (begins_relaxed (strict more) (strict m) (pre ++ t ∷ []) (le-max_right limit more, λ q. q) b)
 exclusive limit more pre next t MissingEnd h e b c = no_missing (strict limit) next t e
 exclusive limit more pre next t Unexpected h e b c =
     no_begin (double_rules limit) pre next t Unexpected (walk_relaxed (strict limit) (double_rules limit) pre beginning next (omega arith, λ q. refl) h) (never limit (double_rules limit) next t (omega arith) e) c
@@ -382,6 +387,7 @@ one_fault limit ts at other kind otherwise a b = by_run (run (strict limit) begi
   where
     same : at ≡ other
     same = one_place limit ts at other kind otherwise a b
+
     by_run : (x : Answer) → run (strict limit) beginning ts ≡ x → (at ≡ other) × (kind ≡ otherwise)
     by_run (Ok p) e = absurd (a.unfinished (program_of p) (found (strict limit) ts p e))
     by_run (Err f) e =
