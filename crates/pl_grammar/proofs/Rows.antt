@@ -1,9 +1,9 @@
 -- Worked rows of the grammar, by computing: faults at their terminals, and derivations.
 use Rattle.std.proofs.Common.{◌≡◌, ℕ, pos, true, false, List, [], ◌∷◌, Ok, Err, refl}
-use Rattle.std.specs.Prelude.{codes}
+use Rattle.std.specs.Prelude.{codes, replicate, ◌++◌}
 use Rattle.pl_syntax.specs.declared.expr.Bin.TheVariants as bin
 use Rattle.pl_grammar.specs.declared.fault.FaultKind.{FaultKind}
-use Rattle.pl_grammar.specs.declared.fault.FaultKind.TheVariants.{Unexpected, MissingEnd, FunctionTwice}
+use Rattle.pl_grammar.specs.declared.fault.FaultKind.TheVariants.{Unexpected, MissingEnd, TooDeep, FunctionTwice}
 use Rattle.pl_grammar.specs.declared.terminal.Terminal.{Terminal}
 use Rattle.pl_grammar.specs.declared.terminal.Word.{Word}
 use Rattle.pl_grammar.specs.declared.terminal.Word.TheVariants as w
@@ -216,3 +216,29 @@ open_parenthesis = refl
 open_if : reads (t (w.Key k.If) ∷ t w.Open ∷ v (codes "x") ∷ []) ≡ fault MissingEnd 0
 unfolding reads fault v t m
 open_if = refl
+
+-- the limit of nesting: a statement and 199 parentheses, brackets or signs are 200 levels, one more is too deep at it
+parens : reads (replicate 199 (t w.Open)) ≡ fault Unexpected 0
+unfolding reads fault t m
+parens = refl
+
+parens_too_deep : reads (replicate 200 (t w.Open)) ≡ fault TooDeep 1
+unfolding reads fault t m
+parens_too_deep = refl
+
+brackets_too_deep : reads (replicate 199 (t w.OpenSquare) ++ t w.OpenSquare ∷ t w.Comma ∷ []) ≡ fault TooDeep 2
+unfolding reads fault t m
+brackets_too_deep = refl
+
+signs_too_deep : reads (replicate 200 (t (w.Binary bin.Sub))) ≡ fault TooDeep 1
+unfolding reads fault t m
+signs_too_deep = refl
+
+-- 200 compound statements, and one more
+deep_try : reads (replicate 200 (t (w.Key k.Try))) ≡ fault MissingEnd 0
+unfolding reads fault t m
+deep_try = refl
+
+try_too_deep : reads (replicate 201 (t (w.Key k.Try))) ≡ fault TooDeep 1
+unfolding reads fault t m
+try_too_deep = refl

@@ -125,7 +125,7 @@ no_begin r pre next t k h e b =
     let x : run r beginning ((pre ++ t ∷ []) ++ b.more) ≡ Ok b.parses.rules = answered r ((pre ++ t ∷ []) ++ b.more) b.program b.parses in
     let y : run r beginning (pre ++ (t ∷ b.more)) ≡ Ok b.parses.rules = ap (λ z. run r beginning z) (sym (append_assoc pre (t ∷ []) b.more)) ∙ x in
     let z : run r next (t ∷ b.more) ≡ Ok b.parses.rules = sym (walk_run r pre (t ∷ b.more) beginning next h) ∙ y in
-    let u : Err (record { kind = k; left = suc (length b.more) }) ≡ Ok b.parses.rules = rw e at z in cc
+    let u : onward (Err k) (λ x. run r x b.more) (suc (length b.more)) ≡ Ok b.parses.rules = rw e at z in cc
 
 -- ---- more permissive rules
 
