@@ -1,0 +1,9 @@
+pub mod Words
+pub mod Derivations
+pub mod Spelling
+pub mod Trees
+pub mod Nesting
+pub mod Sound
+pub mod Programs
+pub mod Machine
+pub mod Steps
