@@ -7,3 +7,4 @@ pub mod Sound
 pub mod Programs
 pub mod Machine
 pub mod Steps
+pub mod Levels

@@ -18,6 +18,6 @@ mod owner;
 mod terminal;
 
 pub use fault::FaultKind;
-pub use laws::{machine_reads, one_answer};
+pub use laws::{machine_reads, one_answer, trees_are_low};
 pub use owner::Owner;
 pub use terminal::{Keyword, Terminal, Word};
