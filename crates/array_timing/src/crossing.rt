@@ -1,6 +1,6 @@
 //! The witness that an array may cross threads.
 
-ghost use Rattle.std.specs.Prelude.{◌≡◌, ◌×◌, length, IfOk};
+ghost use Rattle.std.specs.Prelude.{◌≡◌, length, IfOk};
 
 use pl_array::Arr;
 use pl_base::NoMemory;
