@@ -27,8 +27,10 @@ fn show<R: AllocGlobal + Print + Threads + Sync>(rt: &R) -> Result<()> {
         let outcome = work.run(rt.alloc(), &mut operands)?;
         println!(rt; "{work} {outcome}")?;
     }
-    let (here, there) = crossing::lengths(rt, rt.alloc(), &operands.left)?;
-    println!(rt; "threads {here} {there}")?;
+    let (there, here) = crossing::sent(rt, rt.alloc(), &operands.left)?;
+    println!(rt; "sent {there} {here}")?;
+    let (there, here) = crossing::shared(rt, &operands.left);
+    println!(rt; "shared {there} {here}")?;
     Ok(())
 }
 
