@@ -1,0 +1,5 @@
+mod Sizes
+mod Cells
+mod FirstBest
+mod Lines
+mod Places
