@@ -6,11 +6,13 @@ ghost use Rattle.pl_array.specs.Arrays.{most};
 use crate::fault::Fault;
 use crate::making::{append, row, write_one};
 use pl_array::{Arr, Op2, map2};
-use pl_base::NoMemory;
+use pl_builtin::{Builtin, call};
+use pl_setfn::{SetFn, call_set};
 use std::alloc::Global;
 use std::fmt::{self, Display, Formatter};
 
-/// One thing to be timed: an operator on two whole arrays, or as many steps as they have cells.
+/// One thing to be timed: an operator on two whole arrays, as many steps as they have cells, or a function
+/// of one whole array.
 #[derive(Clone, Copy, Debug)]
 pub(crate) enum Work {
     Add,
@@ -20,9 +22,11 @@ pub(crate) enum Work {
     Singles,
     Writes,
     Appends,
+    Makes(Builtin),
+    Picks(SetFn),
 }
 
-pub(crate) static WORKS: [Work; 7] = [
+pub(crate) static WORKS: [Work; 18] = [
     Work::Add,
     Work::Sub,
     Work::Less,
@@ -30,6 +34,17 @@ pub(crate) static WORKS: [Work; 7] = [
     Work::Singles,
     Work::Writes,
     Work::Appends,
+    Work::Makes(Builtin::Sum),
+    Work::Makes(Builtin::Min),
+    Work::Makes(Builtin::Max),
+    Work::Picks(SetFn::Cumsum),
+    Work::Picks(SetFn::Any),
+    Work::Picks(SetFn::All),
+    Work::Picks(SetFn::Find),
+    Work::Picks(SetFn::Sort),
+    Work::Picks(SetFn::Unique),
+    Work::Picks(SetFn::Repmat),
+    Work::Picks(SetFn::Reshape),
 ];
 
 /// The arrays, made before the clock starts. `count` is the number of cells of each.
@@ -38,17 +53,19 @@ pub(crate) struct Operands {
     pub(crate) left: Arr,
     right: Arr,
     written: Arr,
+    mixed: Arr,
     count: u32,
 }
 
 impl Operands {
-    pub(crate) fn new(alloc: Global, count: u32) -> Result<Operands, NoMemory>
+    pub(crate) fn new(alloc: Global, count: u32) -> Result<Operands, Fault>
         requires { count ≤ most }
     {
         Ok(Operands {
             left: row(alloc, 3, count)?,
             right: row(alloc, 4, count)?,
             written: row(alloc, 0, count)?,
+            mixed: mixed(alloc, count)?,
             count,
         })
     }
@@ -64,6 +81,8 @@ impl Display for Work {
             Work::Singles => "singles",
             Work::Writes => "writes",
             Work::Appends => "appends",
+            Work::Makes(function) => function.name(),
+            Work::Picks(function) => function.name(),
         })
     }
 }
@@ -79,6 +98,13 @@ impl Work {
             Work::Singles => singles(alloc, on.count),
             Work::Writes => writes(alloc, on),
             Work::Appends => appends(alloc, on.count),
+            Work::Makes(function) => Ok(first(call(
+                alloc,
+                *function,
+                &[on.mixed.copy(alloc)?],
+                1,
+            )?)),
+            Work::Picks(function) => picked(alloc, *function, on),
         }
     }
 }
@@ -86,6 +112,37 @@ impl Work {
 /// The last cell.
 fn last(a: &Arr) -> i64 {
     a.cells().last().copied().unwrap_or(0)
+}
+
+/// The last cell of the first output of a call.
+fn first(outputs: Vec<Arr>) -> i64 {
+    match outputs.first() {
+        Some(a) => last(a),
+        None => 0,
+    }
+}
+
+/// The numbers from 0 to below the count, each once, far from any order.
+fn mixed(alloc: Global, count: u32) -> Result<Arr, Fault>
+    requires { count ≤ most }
+{
+    let ones = row(alloc, 1, count)?;
+    let mut sums = call_set(alloc, SetFn::Cumsum, &[ones], 1)?;
+    let rising = sums.pop().unwrap_or(Arr::scalar(0));
+    let spread = map2(alloc, Op2::Mul, &rising, &Arr::scalar(7919))?;
+    Ok(map2(alloc, Op2::Mod, &spread, &Arr::scalar(i64::from(count)))?)
+}
+
+/// A function that picks or lays out the cells of the mixed array; the layouts keep as many cells.
+fn picked(alloc: Global, function: SetFn, on: &Operands) -> Result<i64, Fault> {
+    let a = on.mixed.copy(alloc)?;
+    let (rows, cols) = match function {
+        SetFn::Repmat => (1, 1),
+        SetFn::Reshape => (i64::from(on.count), 1),
+        _ => return Ok(first(call_set(alloc, function, &[a], 1)?)),
+    };
+    let arguments = [a, Arr::scalar(rows), Arr::scalar(cols)];
+    Ok(first(call_set(alloc, function, &arguments, 1)?))
 }
 
 /// An operator on two arrays, once.
