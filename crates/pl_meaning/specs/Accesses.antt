@@ -16,7 +16,7 @@ abbrev pub fail : {A : Type 0} → ErrKind → Place → Running A
 fail kind place = raise (error_of kind place)
 
 -- the value that an operation gives, or its refusal as an error at this place
-unfoldable pub settle : {A : Type 0} → Place → Result A ErrKind → Running A
+abbrev pub settle : {A : Type 0} → Place → Result A ErrKind → Running A
 settle place (Ok a) = pure a
 settle place (Err kind) = fail kind place
 

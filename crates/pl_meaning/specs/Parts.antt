@@ -5,6 +5,7 @@
 use Rattle.std.specs.Prelude.{ℕ, zero, suc, ◌+◌, nat_lt, List, [], ◌∷◌, ◌++◌, length, replicate, position, slice_get, slice_set, take, Bool, true, false, codes, pos, ◌||◌, Option, Some, None, if◌then◌else◌}
 use Rattle.pl_base.specs.declared.errors.Place.{Place}
 use Rattle.pl_base.specs.declared.mode.Mode.{Mode}
+use Rattle.pl_base.specs.Numbers.{clamp}
 use Rattle.pl_base.specs.declared.errors.ErrKind.TheVariants.{TooDeep, NoValue, ArgCount, BadKind, BadIndex, OutputUnset, WrongPlace, Spent}
 use Rattle.pl_syntax.specs.declared.expr.Name.{Name}
 use Rattle.pl_syntax.specs.declared.expr.Un.{Un}
@@ -163,7 +164,7 @@ indexed value f n slot es = check slot n.place >>= (λ u. places value f slot es
 
 abbrev pub end_word : Option Ends → Place → Running Value
 end_word None place = fail BadIndex place
-end_word (Some ends) place = read_end ends place >>= (λ extent. pure (number_of (pos extent)))
+end_word (Some ends) place = read_end ends place >>= (λ extent. pure (number_of (clamp (pos extent))))
 
 -- the one output of a call that is used as a value
 abbrev pub first_of : Place → List Value → Running Value
@@ -310,8 +311,12 @@ module _ (program : Resolved) where
   abbrev pub frame_of : ℕ → ℕ → ℕ → Frame
   frame_of i given wanted = record { scope = i + 1; given = given; wanted = wanted; ends = None }
 
+  -- its statements, and the outputs that are asked for
+  abbrev pub ran : Level → Frame → Place → Function → Running (List Value)
+  ran d f place g = d.block f g.body >>= (λ x. results f place g)
+
   abbrev pub body_of : Level → Frame → Place → Function → List Value → Running (List Value)
-  body_of d f place g vs = inside (entry_of f g vs) (d.block f g.body >>= (λ x. results f place g))
+  body_of d f place g vs = inside (entry_of f g vs) (ran d f place g)
 
   -- a function: the counts, a turn, a level, and its body in a workspace of its own
   abbrev pub entered : Option Level → Place → ℕ → ℕ → List Value → Option Function → Running (List Value)

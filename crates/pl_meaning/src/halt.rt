@@ -3,7 +3,7 @@
 ghost use Rattle.std.specs.Prelude.{◌≡◌};
 
 use pl_base::{NoMemory, ScriptError};
-use std::alloc::AllocError;
+use std::alloc::{AllocError, AllocFailed};
 
 /// The world takes no more.
 #[derive(Clone, Copy, Debug, PartialEq, Eq)]
@@ -36,6 +36,16 @@ impl From<AllocError> for Halt {
     ghost from_gives = { λ _ e. e ≡ Halt.Memory };
 
     fn from(_e: AllocError) -> Halt {
+        Halt::Memory
+    }
+}
+
+impl<T: Drop> From<AllocFailed<T>> for Halt {
+    ghost use Rattle.pl_meaning.specs.declared.halt.Halt.{Halt};
+
+    ghost from_gives = { λ _ e. e ≡ Halt.Memory };
+
+    fn from(_e: AllocFailed<T>) -> Halt {
         Halt::Memory
     }
 }
