@@ -6,3 +6,4 @@ pub mod Names
 pub mod Library
 pub mod Parts
 pub mod Promises
+pub mod Runs

@@ -2,7 +2,7 @@
 -- number of levels that are left. Each expression node but a number, a text and a variable, each compound
 -- statement and each call of a local function goes down by one level, and where none is left the error is
 -- TooDeep at its place.
-use Rattle.std.specs.Prelude.{ℕ, zero, suc, ◌+◌, nat_lt, List, [], ◌∷◌, ◌++◌, length, replicate, position, slice_get, slice_set, take, Bool, true, false, codes, pos, ◌||◌, Option, Some, None, if◌then◌else◌}
+use Rattle.std.specs.Prelude.{ℕ, zero, suc, ◌+◌, ◌-◌, nat_lt, List, [], ◌∷◌, ◌++◌, length, replicate, position, slice_get, slice_set, take, drop, Bool, true, false, codes, pos, ◌||◌, Option, Some, None, if◌then◌else◌}
 use Rattle.pl_base.specs.declared.errors.Place.{Place}
 use Rattle.pl_base.specs.declared.mode.Mode.{Mode}
 use Rattle.pl_base.specs.Numbers.{clamp}
@@ -22,7 +22,8 @@ use Rattle.pl_syntax.specs.declared.stmt.Target.{Target}
 use Rattle.pl_syntax.specs.declared.stmt.Target.TheVariants.{Whole, Indexed, Braced}
 use Rattle.pl_syntax.specs.declared.stmt.Function.{Function}
 use Rattle.pl_resolve.specs.declared.resolved.Resolved.{Resolved}
-use Rattle.pl_values.specs.declared.value.Value.{Value}
+use Rattle.pl_values.specs.declared.value.Value.{Value, out-Value}
+use Rattle.pl_values.specs.declared.value.Value.TheOpen.{Value-F}
 use Rattle.pl_array.specs.Arrays.{Array}
 use Rattle.pl_values.specs.Workspaces.{value_at}
 use Rattle.pl_operators.specs.declared.argument.Argument.{Argument}
@@ -42,8 +43,9 @@ use Rattle.pl_meaning.specs.Logs.{Workspace}
 use Rattle.pl_meaning.specs.Running.{Running, pure, ◌>>=◌, attempt, inside, tell}
 use Rattle.pl_meaning.specs.Accesses.{fail, settle, read, check, read_part, read_end, write, write_part, erase_part, take_turn}
 use Rattle.pl_meaning.specs.declared.known.Known.{Known}
+use Rattle.pl_resolve.specs.Functions.{function_names, local_names, number_of as number_of_name}
 use Rattle.pl_meaning.specs.Names.{names_in, slot_of, function_of, callee_of, arguments_of}
-use Rattle.pl_meaning.specs.Known.{known_of}
+use Rattle.pl_meaning.specs.Known.{known_of, is_feval}
 use Rattle.pl_meaning.specs.Library.{library}
 
 -- what parts do one level further down
@@ -211,49 +213,95 @@ name_of (Whole n) = n
 name_of (Indexed n es) = n
 name_of (Braced n k) = n
 
-module _ (program : Resolved) where
-  -- a call by a name: of a local function, or else of a function of the library
-  abbrev pub dispatched : Level → Frame → Place → ℕ → List Value → Option ℕ → Option Known → Running (List Value)
-  dispatched d f place nout vs (Some i) known = d.call place i nout vs
-  dispatched d f place nout vs None (Some known) = library f place known nout vs
-  dispatched d f place nout vs None None = fail NoValue place
+-- the function that a call by a value is handed: its first argument
+abbrev pub handed_value : Place → Value-F Value → Running ℕ
+handed_value place (Value-F.Func i) = pure i
+handed_value place v = fail BadKind place
 
-  unfoldable pub call_name : Level → Frame → Name → ℕ → List Value → Running (List Value)
-  call_name d f n nout vs = dispatched d f n.place nout vs (function_of program n.text) (known_of n.text)
+abbrev pub handed : Place → List Value → Running ℕ
+handed place [] = fail ArgCount place
+handed place (v ∷ vs) = handed_value place (out-Value v)
+
+module _ (program : Resolved) where
+  -- a function of the library by its place in the table of names
+  abbrev pub by_known : Place → ℕ → List Value → Option Known → Running (List Value)
+  by_known place nout vs None = unbuilt place
+  by_known place nout vs (Some f) = library program.mode place f nout vs
+
+  abbrev pub by_table : Place → ℕ → List Value → Option (List ℕ) → Running (List Value)
+  by_table place nout vs None = unbuilt place
+  by_table place nout vs (Some name) = by_known place nout vs (known_of name)
+
+  abbrev pub locals : ℕ
+  locals = length program.program.functions
+
+  -- a call by the number of a function: local ones first, then those of the table
+  unfoldable pub numbered : Level → Place → ℕ → ℕ → List Value → Running (List Value)
+  numbered d place i nout vs = if nat_lt i locals then d.call place i nout vs else by_table place nout vs (slice_get function_names (i - locals))
+
+  -- `feval`: the first argument is the function, and the others are its arguments
+  unfoldable pub fed : Level → Place → ℕ → List Value → Running (List Value)
+  fed d place nout vs = handed place vs >>= (λ i. numbered d place i nout (drop 1 vs))
+
+  abbrev pub by_library : Level → Place → ℕ → List Value → Known → Running (List Value)
+  by_library d place nout vs f = if is_feval f then fed d place nout vs else library program.mode place f nout vs
+
+  -- a call by a name: of a local function, or else of a function of the library
+  abbrev pub dispatched : Level → Place → ℕ → List Value → Option ℕ → Option Known → Running (List Value)
+  dispatched d place nout vs (Some i) f = d.call place i nout vs
+  dispatched d place nout vs None (Some f) = by_library d place nout vs f
+  dispatched d place nout vs None None = unbuilt place
+
+  unfoldable pub call_name : Level → Name → ℕ → List Value → Running (List Value)
+  call_name d n nout vs = dispatched d n.place nout vs (function_of program n.text) (known_of n.text)
 
   abbrev pub applied : Level → Frame → Name → ℕ → List Expr → Running (List Value)
-  applied d f n nout es = values d.value f n.place es >>= (λ vs. call_name d f n nout vs)
+  applied d f n nout es = values d.value f n.place es >>= (λ vs. call_name d n nout vs)
 
   -- a call's node, with so many outputs
   unfoldable pub called : Option Level → Frame → Place → Name → ℕ → List Expr → Running (List Value)
   called l f place n nout es = enter l place (λ d. applied d f n nout es)
 
+  -- `@name`: the number of a function
+  abbrev pub handle_of : Place → Option ℕ → Running Value
+  handle_of place None = fail NoValue place
+  handle_of place (Some i) = pure (Value.Func i)
+
+  abbrev pub handle : Name → Running Value
+  handle n = handle_of n.place (number_of_name (local_names program.program.functions) n.text)
+
   abbrev pub variable_or_call : Option Level → Frame → Place → Name → Option ℕ → Running Value
   variable_or_call l f place n (Some slot) = read slot n.place
   variable_or_call l f place n None = called l f place n 1 [] >>= (λ vs. first_of n.place vs)
 
-  abbrev pub index_or_call : Option Level → Frame → Place → Name → List Expr → Option ℕ → Running Value
-  index_or_call l f place n es (Some slot) = enter l place (λ d. indexed d.value f n slot es)
-  index_or_call l f place n es None = called l f place n 1 es >>= (λ vs. first_of n.place vs)
+  abbrev pub index_or_call : Level → Frame → Name → List Expr → Option ℕ → Running Value
+  index_or_call d f n es (Some slot) = indexed d.value f n slot es
+  index_or_call d f n es None = applied d f n 1 es >>= (λ vs. first_of n.place vs)
 
-  abbrev pub value_of : Option Level → Frame → Place → ExprKind-F ExprKind Expr → Running Value
-  value_of l f place (ExprKind-F.Number z) = pure (number_of z)
-  value_of l f place (ExprKind-F.Chars t) = pure (chars_of t)
-  value_of l f place (ExprKind-F.Var n) = variable_or_call l f place n (slot_of program f n.text)
-  value_of l f place (ExprKind-F.Apply n es) = index_or_call l f place n es (slot_of program f n.text)
-  value_of l f place (ExprKind-F.Brace n k es) = enter l place (λ d. unbuilt place)
-  value_of l f place (ExprKind-F.Unary op a) = enter l place (λ d. unary program.mode d.value f place op a)
-  value_of l f place (ExprKind-F.Binary op a b) = enter l place (λ d. operated program.mode d.value f place op a b)
-  value_of l f place (ExprKind-F.Range a s b) = enter l place (λ d. range d.value f place a s b)
-  value_of l f place (ExprKind-F.Rows ess) = enter l place (λ d. bracket d.value f place ess)
-  value_of l f place (ExprKind-F.Func n) = enter l place (λ d. unbuilt place)
-  value_of l f place ExprKind-F.End = enter l place (λ d. end_word f.ends place)
-  value_of l f place ExprKind-F.Colon = fail BadKind place
-  value_of l f place (ExprKind-F.StateOf e) = enter l place (λ d. unbuilt place)
+  -- an expression that goes down by a level, below it
+  abbrev pub compound_of : Level → Frame → Place → ExprKind-F ExprKind Expr → Running Value
+  compound_of d f place (ExprKind-F.Apply n es) = index_or_call d f n es (slot_of program f n.text)
+  compound_of d f place (ExprKind-F.Unary op a) = unary program.mode d.value f place op a
+  compound_of d f place (ExprKind-F.Binary op a b) = operated program.mode d.value f place op a b
+  compound_of d f place (ExprKind-F.Range a s b) = range d.value f place a s b
+  compound_of d f place (ExprKind-F.Rows ess) = bracket d.value f place ess
+  compound_of d f place (ExprKind-F.Func n) = handle n
+  compound_of d f place ExprKind-F.End = end_word f.ends place
+  compound_of d f place kind = unbuilt place
+
+  unfoldable pub compound : Level → Frame → Expr → Running Value
+  compound d f e = compound_of d f (out-Expr e).place (out-ExprKind (out-Expr e).kind)
+
+  abbrev pub value_of : Option Level → Frame → Expr → Place → ExprKind-F ExprKind Expr → Running Value
+  value_of l f e place (ExprKind-F.Number z) = pure (number_of z)
+  value_of l f e place (ExprKind-F.Chars t) = pure (chars_of t)
+  value_of l f e place (ExprKind-F.Var n) = variable_or_call l f place n (slot_of program f n.text)
+  value_of l f e place ExprKind-F.Colon = fail BadKind place
+  value_of l f e place kind = enter l place (λ d. compound d f e)
 
   -- the value of an expression
   unfoldable pub value_in : Option Level → Frame → Expr → Running Value
-  value_in l f e = value_of l f (out-Expr e).place (out-ExprKind (out-Expr e).kind)
+  value_in l f e = value_of l f e (out-Expr e).place (out-ExprKind (out-Expr e).kind)
 
   -- so many outputs of an expression; one that is no call has one value
   abbrev pub outputs_by : Option Level → Frame → ℕ → Expr → Option Name → Running (List Value)
@@ -283,9 +331,16 @@ module _ (program : Resolved) where
   bound f env (p ∷ ps) [] = env
   bound f env (p ∷ ps) (v ∷ vs) = bound f (bound_in f env p v) ps vs
 
-  -- the workspace in which a function begins
+  -- the counts of a call, in the slots of their names
+  abbrev pub count_in : Frame → List ℕ → ℕ → Workspace → Workspace
+  count_in f name n env = with_slot env (slot_of program f name) (number_of (clamp (pos n)))
+
+  abbrev pub counted_in : Frame → Workspace → Workspace
+  counted_in f env = count_in f (codes "nargout") f.wanted (count_in f (codes "nargin") f.given env)
+
+  -- the workspace in which a function begins: the counts of its call, and then its arguments
   abbrev pub entry_of : Frame → Function → List Value → Workspace
-  entry_of f g vs = bound f (replicate (length (names_in program f.scope)) None) g.params vs
+  entry_of f g vs = bound f (counted_in f (replicate (length (names_in program f.scope)) None)) g.params vs
 
   -- an output that the function assigned
   abbrev pub output : Frame → Place → Name → Running Value
@@ -453,24 +508,30 @@ module _ (program : Resolved) where
   unfoldable pub columned : Level → Frame → Place → Name → Expr → List Stmt → Running Exit
   columned d f place n e body = d.value f e >>= (λ v. settle place (array_in v) >>= (λ a. counted d f place (slot_of program f n.text) a body))
 
-  abbrev pub stmt_at : Option Level → Frame → Place → Bool → StmtKind-F StmtKind Arm Stmt → Running Exit
-  stmt_at l f place show (StmtKind-F.Eval e) = evaluated l f show e
-  stmt_at l f place show (StmtKind-F.Assign t e) = assignment l f show t e
-  stmt_at l f place show (StmtKind-F.AssignList ts e) = list_assignment l f place show ts e
-  stmt_at l f place show (StmtKind-F.Delete n es) = deletion l f n es
-  stmt_at l f place show (StmtKind-F.If arms other) = enter l place (λ d. branches d f place arms other)
-  stmt_at l f place show (StmtKind-F.While e body) = enter l place (λ d. looped d f place e body)
-  stmt_at l f place show (StmtKind-F.For n e body) = enter l place (λ d. columned d f place n e body)
-  stmt_at l f place show (StmtKind-F.Parfor n e most body) = unbuilt place
-  stmt_at l f place show (StmtKind-F.Switch e arms other) = enter l place (λ d. cases d f place e arms other)
-  stmt_at l f place show (StmtKind-F.Try body handler) = enter l place (λ d. attempt (d.block f body) (d.block f handler))
-  stmt_at l f place show (StmtKind-F.Spmd n body) = unbuilt place
-  stmt_at l f place show StmtKind-F.Break = pure Broke
-  stmt_at l f place show StmtKind-F.Continue = pure Continued
-  stmt_at l f place show StmtKind-F.Return = pure Returned
+  -- a statement that goes down by a level, below it
+  abbrev pub compound_at : Level → Frame → Place → StmtKind-F StmtKind Arm Stmt → Running Exit
+  compound_at d f place (StmtKind-F.If arms other) = branches d f place arms other
+  compound_at d f place (StmtKind-F.While e body) = looped d f place e body
+  compound_at d f place (StmtKind-F.For n e body) = columned d f place n e body
+  compound_at d f place (StmtKind-F.Switch e arms other) = cases d f place e arms other
+  compound_at d f place (StmtKind-F.Try body handler) = attempt (d.block f body) (d.block f handler)
+  compound_at d f place kind = unbuilt place
+
+  unfoldable pub compound_stmt : Level → Frame → Stmt → Running Exit
+  compound_stmt d f s = compound_at d f (out-Stmt s).place (out-StmtKind (out-Stmt s).kind)
+
+  abbrev pub stmt_at : Option Level → Frame → Stmt → Place → Bool → StmtKind-F StmtKind Arm Stmt → Running Exit
+  stmt_at l f s place show (StmtKind-F.Eval e) = evaluated l f show e
+  stmt_at l f s place show (StmtKind-F.Assign t e) = assignment l f show t e
+  stmt_at l f s place show (StmtKind-F.AssignList ts e) = list_assignment l f place show ts e
+  stmt_at l f s place show (StmtKind-F.Delete n es) = deletion l f n es
+  stmt_at l f s place show StmtKind-F.Break = pure Broke
+  stmt_at l f s place show StmtKind-F.Continue = pure Continued
+  stmt_at l f s place show StmtKind-F.Return = pure Returned
+  stmt_at l f s place show kind = enter l place (λ d. compound_stmt d f s)
 
   unfoldable pub stmt_in : Option Level → Frame → Stmt → Running Exit
-  stmt_in l f s = stmt_at l f (out-Stmt s).place (out-Stmt s).show (out-StmtKind (out-Stmt s).kind)
+  stmt_in l f s = stmt_at l f s (out-Stmt s).place (out-Stmt s).show (out-StmtKind (out-Stmt s).kind)
 
   -- statements one after another, until one leaves them
   abbrev pub sequel : Exit → Running Exit → Running Exit

@@ -1,13 +1,14 @@
 -- What a function promises that carries out a part.
-use Rattle.std.specs.Prelude.{◌≡◌, ℕ, Result, Ok, Err, IfOk, List, [], Bool, true, false, take, drop, length}
+use Rattle.std.specs.Prelude.{◌≡◌, ℕ, Result, Ok, Err, IfOk, List, [], Bool, true, false, take, drop, length, Option, Some, None, option_map}
+use Rattle.std.specs.Borrow.{GName}
 use Rattle.pl_base.specs.declared.errors.ErrKind.{ErrKind}
 use Rattle.pl_base.specs.declared.errors.ScriptError.{ScriptError}
 use Rattle.pl_base.specs.declared.memory.Or.{Or}
 use Rattle.pl_meaning.specs.declared.event.Answer.{Answer}
 use Rattle.pl_meaning.specs.declared.halt.Halt.{Halt}
 use Rattle.pl_meaning.specs.declared.memory.Memory.{Memory}
-use Rattle.pl_meaning.specs.Logs.{Workspace, Trace, Log}
-use Rattle.pl_meaning.specs.Running.{Outcome, Done, Rest, Running, before}
+use Rattle.pl_meaning.specs.Logs.{Workspace, Trace, Log, grown, rose}
+use Rattle.pl_meaning.specs.Running.{Outcome, Ending, Done, Rest, Running}
 
 -- where a part that is carried out stands
 pub record At : Type 0 where
@@ -18,33 +19,51 @@ pub record At : Type 0 where
 abbrev pub at : Memory → Log → At
 at m l = record { env = m.env; turns = m.turns; log = l }
 
+-- what is shown begins with what was told, or neither is told
+abbrev pub Begins : Option (List Trace) → Option (List Trace) → Type 0
+Begins None None = Unit {0}
+Begins None (Some told) = ⊥
+Begins (Some ts) None = ⊥
+Begins (Some ts) (Some told) = take (length told) ts ≡ told
+
 -- the answers given are the first of all
 abbrev pub Fits : List Answer → List Answer → Type 0
 Fits all given = take (length given) all ≡ given
 
--- all that a run shows and comes to, and whether its world had stopped it before
+-- all that a run shows and comes to; what its world's count of stops is, and whether it rose; and where its world writes
 pub record Seen : Type 0 where
-  pub outcome : Outcome
-  pub stopped : Bool
+  pub shown : Option (List Trace)
+  pub ending : Ending
+  pub stops : ℕ
+  pub rose : Bool
+  pub sink : Option GName
+
+abbrev pub seen : Log → Outcome → Seen
+seen l o = record { shown = grown l.shown o.shown; ending = o.ending; stops = l.stops; rose = false; sink = l.sink }
 
 -- what a run comes to from here, where all these answers come in the whole run
 abbrev pub from : List Answer → At → Rest → Seen
-from all a rest = record { outcome = before a.log.shown (rest (record { env = a.env; turns = a.turns; answers = drop (length a.log.given) all })); stopped = a.log.stopped }
+from all a rest = seen a.log (rest (record { env = a.env; turns = a.turns; answers = drop (length a.log.given) all }))
 
--- what is looked at of a run that didn't go on: all of it behind an error; where the world stopped it, what it
--- has shown; nothing where there was no memory
-abbrev pub only_shown : List Trace → Bool → Seen
-only_shown ts stopped = record { outcome = record { shown = ts; ending = Done [] }; stopped = stopped }
+-- as much of what is shown as was told
+abbrev pub front : Option (List Trace) → Option (List Trace) → Option (List Trace)
+front None all = None
+front (Some ts) all = option_map (take (length ts)) all
 
-abbrev pub view : Halt → At → Seen → Seen
-view (Halt.Raise e) new o = o
-view Halt.Stopped new o = only_shown (take (length new.log.shown) o.outcome.shown) new.log.stopped
-view Halt.Memory new o = only_shown [] false
+-- what is looked at of a run that didn't go on: all of it behind an error; where the world stopped it or memory was
+-- wanting, what was shown, and that the count rose, or didn't
+abbrev pub view : Halt → Log → Seen → Seen
+view (Halt.Raise e) l o = o
+view Halt.Stopped l o = record { shown = front l.shown o.shown; ending = Done []; stops = l.stops; rose = rose o.stops l.stops; sink = o.sink }
+view Halt.Memory l o = record { shown = front l.shown o.shown; ending = Done []; stops = o.stops; rose = false; sink = o.sink }
 
-abbrev pub viewed : Halt → At → (ScriptError → Seen) → Seen
-viewed (Halt.Raise e) new behind = behind e
-viewed Halt.Stopped new behind = only_shown new.log.shown true
-viewed Halt.Memory new behind = only_shown [] false
+abbrev pub cut_off : Bool → Log → Seen
+cut_off r l = record { shown = l.shown; ending = Done []; stops = l.stops; rose = r; sink = l.sink }
+
+abbrev pub viewed : Halt → Log → (ScriptError → Seen) → Seen
+viewed (Halt.Raise e) l behind = behind e
+viewed Halt.Stopped l behind = cut_off true l
+viewed Halt.Memory l behind = cut_off false l
 
 -- the part went on with this value
 abbrev pub Went : {A : Type 0} → Running A → At → A → At → Type 0
@@ -52,15 +71,15 @@ Went {A} p old a new = (k : A → Rest) (h : ScriptError → Rest) (all : List A
 
 -- the part didn't go on
 abbrev pub Halts : {A : Type 0} → Running A → At → Halt → At → Type 0
-Halts {A} p old x new = (k : A → Rest) (h : ScriptError → Rest) (all : List Answer) → Fits all new.log.given → view x new (from all old (p k h)) ≡ viewed x new (λ e. from all new (h e))
+Halts {A} p old x new = (k : A → Rest) (h : ScriptError → Rest) (all : List Answer) → Fits all new.log.given → view x new.log (from all old (p k h)) ≡ viewed x new.log (λ e. from all new (h e))
 
--- the answers that were given stay given
+-- the answers that were given stay given, and what was shown stays shown
 abbrev pub Keeps : At → At → Type 0
-Keeps old new = (all : List Answer) → Fits all new.log.given → Fits all old.log.given
+Keeps old new = ((all : List Answer) → Fits all new.log.given → Fits all old.log.given) × ((ts : Option (List Trace)) → Begins ts new.log.shown → Begins ts old.log.shown)
 
 -- a part that does nothing but fail didn't go on
-abbrev pub Fails : ScriptError → At → Halt → Type 0
-Fails e m x = (h : ScriptError → Rest) (all : List Answer) → view x m (from all m (h e)) ≡ viewed x m (λ y. from all m (h y))
+abbrev pub Fails : ScriptError → Halt → Type 0
+Fails e x = (env : Workspace) (turns : ℕ) (l : Log) (h : ScriptError → Rest) (all : List Answer) → view x l (from all (record { env = env; turns = turns; log = l }) (h e)) ≡ viewed x l (λ y. from all (record { env = env; turns = turns; log = l }) (h y))
 
 -- a part has come so far: what is left of it from here is what it was from there
 abbrev pub Comes : {A : Type 0} → Running A → At → Running A → At → Type 0

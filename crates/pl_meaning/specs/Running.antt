@@ -8,7 +8,7 @@ use Rattle.pl_base.specs.declared.errors.ScriptError.{ScriptError}
 use Rattle.pl_meaning.specs.declared.event.Event.{Event}
 use Rattle.pl_meaning.specs.declared.event.Question.{Question}
 use Rattle.pl_meaning.specs.declared.event.Answer.{Answer}
-use Rattle.pl_meaning.specs.Logs.{Workspace, Trace, Told, Asked}
+use Rattle.pl_meaning.specs.Logs.{Workspace, Trace, Asked, shows}
 
 -- where a run stands: its workspace, the turns that are left, and the answers that it hasn't used
 pub record State : Type 0 where
@@ -68,7 +68,7 @@ inside env p = λ k h s. p (λ a t. k a (record t { env = s.env })) (λ e t. h e
 
 -- an event
 unfoldable pub tell : Event → Running (Unit {0})
-tell e = λ k h s. before (Told e ∷ []) (k tt s)
+tell e = λ k h s. before (shows e) (k tt s)
 
 -- a question: the next answer, or the end of what is known
 abbrev pub answer_of : Question → List Answer → Running Answer

@@ -8,9 +8,10 @@
 //! What is promised of a part that is carried out, case by case: where it goes on, the definition goes on with
 //! the same value from where the workspace, the turns, the answers and the events then stand; where it
 //! raises an error, the definition goes on behind that error from there; where the world stopped it, the
-//! events told are the first of the definition's. Of a part that found no memory nothing is said.
+//! events told are the first of the definition's, and so they are where memory was wanting.
 #![tactic(auto)]
 
+mod ended;
 mod event;
 mod frame;
 mod halt;
@@ -18,9 +19,10 @@ mod known;
 mod memory;
 mod world;
 
+pub use ended::Ended;
 pub use event::{Answer, Event, Question};
 pub use frame::{Ends, Exit, Frame};
 pub use halt::{Halt, Stop};
-pub use known::Known;
+pub use known::{Known, Own};
 pub use memory::Memory;
 pub use world::World;

@@ -211,7 +211,7 @@ fn at(table: &[&'static [u8]], place: usize) -> Option<&'static [u8]>
 
 /// The name at a place among the functions of the language.
 #[tactic(auto, unfolding(crate::specs::Functions::function_names))]
-fn table_name(place: usize) -> Option<&'static [u8]>
+pub fn table_name(place: usize) -> Option<&'static [u8]>
     ensures { option_copied result ≡ slice_get function_names place }
 {
     at(&NAMES, place)
@@ -231,4 +231,31 @@ fn local_place(locals: &[Text], name: &Text) -> Option<usize>
     let next = place + 1;
     prove!(next < count);
     Some(next)
+}
+
+/// The first place of a name among a program's local functions.
+fn place_among(functions: &[Function], name: &Text) -> Option<usize>
+    ensures place { result ≡ place_in (local_names functions.now) name.now }
+    ensures within { IfSome result (λ place. place < length functions.now) }
+{
+    let count = functions.len();
+    let (first, rest) = functions.split_first()?;
+    if *name == first.name.text {
+        return Some(0);
+    }
+    let place = place_among(rest, name)?;
+    let next = place + 1;
+    prove!(next < count);
+    Some(next)
+}
+
+/// The number of a function's name, where the program has these local functions.
+pub fn function_number(functions: &Items<Function>, name: &Text) -> Option<usize>
+    ensures { result ≡ number_of (local_names functions.now) name.now }
+{
+    if let Some(place) = place_among(functions.as_slice(), name) {
+        return Some(place);
+    }
+    let place = in_table(name.bytes())?;
+    Some(functions.len() + place)
 }

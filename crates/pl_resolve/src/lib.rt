@@ -15,7 +15,7 @@ mod scope;
 mod statements;
 
 pub use fault::NameFault;
-pub use functions::Functions;
+pub use functions::{Functions, function_number, table_name};
 pub use occurrence::{Occurrence, Use};
 pub use pl_values::{CoPart, Env, PartScheme, Serial, Value};
 pub use resolved::Resolved;

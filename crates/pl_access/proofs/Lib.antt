@@ -1,0 +1,4 @@
+pub mod Cuts
+pub mod Halted
+mod Slots
+mod Tells

@@ -1,0 +1,17 @@
+//! The words by which whatever carries out a script reaches its workspace, its turns and its world.
+//!
+//! Each promises the word of the same name in the definition of a run (`pl_meaning`): read a variable, write one,
+//! read or write a part of one, delete a part, take a turn, tell an event, raise an error at a place. A word
+//! that refuses leaves the workspace as it was.
+#![tactic(auto)]
+
+mod access;
+mod failing;
+mod storing;
+mod telling;
+
+pub use access::{check, erase_part, read, read_end, read_part, take_turn, write, write_part};
+pub use failing::{array_at, fail};
+pub use pl_base::Or;
+pub use pl_meaning::Halt;
+pub use telling::tell;

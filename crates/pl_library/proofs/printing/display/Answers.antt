@@ -1,0 +1,20 @@
+use Rattle.std.proofs.Common.{refl}
+use Rattle.std.proofs.lemmas.Result.{IfOk-weaker}
+use Rattle.pl_meaning.specs.declared.known.Own.TheVariants.{Disp}
+use Rattle.pl_meaning.specs.Promises.{at}
+use Rattle.pl_meaning.specs.Library.{own_of}
+use Rattle.pl_access.proofs.Halted.{halts}
+use Rattle.pl_library.proofs.Parts.{disp_is, over, went_as, halts_as}
+use Rattle.pl_library.proofs.printing.display.Goals as goal
+
+pub returns-in-true-clause-err : goal.returns-in-true-clause-err
+returns-in-true-clause-err g c =
+    λ x e. halts (own_of c.args.place Disp c.args.wanted c.args.given.items) (at c.args.memory.now (g.W.World.log c.args.world.now)) _ c.fail.result x (λ k h answers. rw (over 0 c.args.wanted c.in-true.is) refl) c.fail.ensures cc
+
+pub returns-in-false-clause-ok : goal.returns-in-false-clause-ok
+returns-in-false-clause-ok g c =
+    IfOk-weaker c.print_array.result _ _ (λ v w. went_as _ v.items _ (disp_is c.args.place c.args.wanted c.args.given.items c.in-false.is) w) c.print_array.ensures.ok
+
+pub returns-in-false-clause-err : goal.returns-in-false-clause-err
+returns-in-false-clause-err g c =
+    λ x e. halts_as _ x _ (disp_is c.args.place c.args.wanted c.args.given.items c.in-false.is) (c.print_array.ensures.err x e)

@@ -1,0 +1,6 @@
+-- Each call has fewer functions.
+use Rattle.std.proofs.Common.{length}
+use Rattle.pl_resolve.proofs.functions.+place_among.Given as goal
+
+abbrev pub decreases-place_among : goal.decreases-place_among
+decreases-place_among l = length l.functions.now
