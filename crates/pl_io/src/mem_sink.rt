@@ -1,7 +1,7 @@
 //! A sink in memory. It tells all that was written to it, has a stated room, and fails the calls of which
 //! it was given the numbers.
 
-ghost use Rattle.std.specs.Prelude.{◌≡◌, ◌≤◌, ◌<◌, [], Some, length, IfOk, is_ok, vec_len, vec_capacity};
+ghost use Rattle.std.specs.Prelude.{◌≡◌, ◌≤◌, ◌<◌, [], None, Some, length, IfOk, is_ok, vec_len, vec_capacity};
 ghost use Rattle.std.specs.Io.{WritesAtMost};
 ghost use Rattle.std.specs.Io.KnownBytes.{WriteAppends};
 ghost use Rattle.pl_io.specs.Faults.{HasCause};
@@ -77,6 +77,7 @@ impl Sink for MemSink {
         ensures bound { WritesAtMost result piece.now }
         ensures some { IfOk result (λ n. 0 < length piece.now → 0 < n) }
         ensures bytes { WriteAppends (Some self.old.bytes.items) (Some self.new.bytes.items) result piece.now }
+        ensures silent { Some self.old.bytes.items ≡ None → Some self.new.bytes.items ≡ None }
         ensures cause { HasCause self.old.faults self.new.faults result }
         ensures exact { is_ok result ≡ takes self.old.fails.items (counted self.old.calls) self.old.room self.old.bytes.items piece.now }
         ensures count { IfOk result (λ n. n ≡ length piece.now) }

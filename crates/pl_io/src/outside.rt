@@ -1,7 +1,7 @@
 //! The two sides of the outside, as traits: a program that is generic over them runs on real files as on
 //! files in memory, and its contract is over what they tell.
 
-ghost use Rattle.std.specs.Prelude.{ℕ, ◌<◌, List, length, IfOk};
+ghost use Rattle.std.specs.Prelude.{◌≡◌, ℕ, ◌<◌, List, length, None, IfOk};
 ghost use Rattle.std.specs.declared.option.Option.{Option};
 ghost use Rattle.std.specs.Io.{ReadsAtMost, WritesAtMost};
 ghost use Rattle.std.specs.Io.KnownBytes.{WriteAppends};
@@ -46,5 +46,7 @@ pub trait Sink {
         ensures bound { WritesAtMost result piece.now }
         ensures some { IfOk result (λ n. 0 < length piece.now → 0 < n) }
         ensures bytes { WriteAppends (written self.old) (written self.new) result piece.now }
+        // A sink that tells nothing tells nothing later.
+        ensures silent { written self.old ≡ None → written self.new ≡ None }
         ensures cause { HasCause (faults self.old) (faults self.new) result };
 }

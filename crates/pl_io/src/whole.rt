@@ -1,6 +1,6 @@
 //! A file read to its end under a limit, and bytes written to theirs.
 
-ghost use Rattle.std.specs.Prelude.{◌≡◌, ◌+◌, ◌<◌, ◌≤◌, ℕ, List, Ok, Err, take, length, Result, IfOk, IfSome, OnOk, OnErr, IfErr, vec_len};
+ghost use Rattle.std.specs.Prelude.{◌≡◌, ◌+◌, ◌<◌, ◌≤◌, ℕ, List, None, Ok, Err, take, length, Result, IfOk, IfSome, OnOk, OnErr, IfErr, vec_len};
 ghost use Rattle.std.specs.Io.KnownBytes.{Appends};
 ghost use Rattle.pl_base.specs.declared.memory.Or.{Or};
 ghost use Rattle.pl_io.specs.Faults.{Rose, HasCause};
@@ -114,6 +114,7 @@ fn read_piece<F: Files>(
 pub fn write_all<K: Sink>(sink: &mut K, bytes: &[u8]) -> Result<(), WriteFault>
     ensures all { OnOk result (Appends (K.written sink.old) (K.written sink.new) bytes.now) }
     ensures prefix { OnErr result (AppendsPrefix (K.written sink.old) (K.written sink.new) bytes.now) }
+    ensures silent { K.written sink.old ≡ None → K.written sink.new ≡ None }
     ensures cause { HasCause (K.faults sink.old) (K.faults sink.new) result }
     ensures grew { K.faults sink.old < K.faults sink.new → result ≡ Err (record {}) }
 {

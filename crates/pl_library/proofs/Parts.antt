@@ -5,7 +5,7 @@ use Rattle.pl_base.specs.declared.errors.Place.{Place}
 use Rattle.pl_base.specs.declared.errors.ErrKind.{ErrKind}
 use Rattle.pl_array.specs.Arrays.{Array}
 use Rattle.pl_text.specs.Displayed.{displayed}
-use Rattle.pl_text.specs.Literal.{char_row, mat2str_of}
+use Rattle.pl_text.specs.Literal.{mat2str_of}
 use Rattle.pl_text.specs.Numerals.{num2str_of}
 use Rattle.pl_values.specs.declared.value.Value.{Value}
 use Rattle.pl_operators.specs.Operands.{and_then}
@@ -14,7 +14,7 @@ use Rattle.pl_meaning.specs.declared.known.Own.TheVariants.{Disp, Fprintf, Sprin
 use Rattle.pl_meaning.specs.Running.{Running, ◌>>=◌}
 use Rattle.pl_meaning.specs.Accesses.{settle}
 use Rattle.pl_meaning.specs.Promises.{At, Went, Halts}
-use Rattle.pl_meaning.specs.Library.{own_of, one_array, text_by, printed}
+use Rattle.pl_meaning.specs.Library.{own_of, one_array, text_by, text_row, printed}
 use Rattle.pl_library.specs.Answering.{shown_by, printing, raising, giving}
 
 within : (most nout : ℕ) → nout ≤ most → nat_lt most nout ≡ false
@@ -36,7 +36,7 @@ fprintf_is place nout vs few = rw (within 0 nout few) refl
 pub error_is : (place : Place) (nout : ℕ) (vs : List Value) → nout ≤ 0 → own_of place Error nout vs ≡ raising place (text_by vs)
 error_is place nout vs few = rw (within 0 nout few) refl
 
-pub sprintf_is : (place : Place) (nout : ℕ) (vs : List Value) → nout ≤ 1 → own_of place Sprintf nout vs ≡ giving place (and_then (text_by vs) char_row)
+pub sprintf_is : (place : Place) (nout : ℕ) (vs : List Value) → nout ≤ 1 → own_of place Sprintf nout vs ≡ giving place (and_then (text_by vs) text_row)
 sprintf_is place nout vs few = rw (within 1 nout few) refl
 
 pub num2str_is : (place : Place) (nout : ℕ) (vs : List Value) → nout ≤ 1 → own_of place NumToStr nout vs ≡ giving place (and_then (one_array vs) num2str_of)

@@ -3,18 +3,18 @@
 ghost use Rattle.std.specs.Prelude.{◌≡◌, ◌∷◌, [], IfOk, Result, Ok, Err};
 ghost use Rattle.pl_array.specs.Arrays.{Array};
 ghost use Rattle.pl_base.specs.declared.errors.ErrKind.{ErrKind};
-ghost use Rattle.pl_text.specs.Literal.{char_row as char_row_of, mat2str_of};
+ghost use Rattle.pl_text.specs.Literal.{mat2str_of};
 ghost use Rattle.pl_text.specs.Numerals.{num2str_of};
 ghost use Rattle.pl_values.specs.declared.value.Value.TheVariants as value_of;
 ghost use Rattle.pl_operators.specs.Operands.{and_then};
 ghost use Rattle.pl_meaning.specs.declared.halt.Halt.{Halt};
 ghost use Rattle.pl_meaning.specs.declared.known.Own.{Own};
 ghost use Rattle.pl_meaning.specs.Promises.{At, Answers, Went, Halts};
-ghost use Rattle.pl_meaning.specs.Library.{own_of, one_array as one_array_of, text_by as text_by_arguments};
+ghost use Rattle.pl_meaning.specs.Library.{own_of, one_array as one_array_of, text_by as text_by_arguments, text_row as text_row_of};
 ghost use Rattle.pl_library.specs.Answering.{giving};
 
 use crate::arguments::one_array;
-use crate::texts::{char_row, text_by};
+use crate::texts::{text_array, text_by};
 use pl_access::fail;
 use pl_array::Arr;
 use pl_base::{ErrKind, NoMemory, Or, Place};
@@ -40,11 +40,11 @@ pub(crate) fn make_text(
 }
 
 fn text_row(alloc: Global, given: Vec<Value>) -> Result<Arr, Or<ErrKind>>
-    ensures ok { IfOk result (λ a. and_then (text_by_arguments given.items) char_row_of ≡ Ok a) }
-    ensures err { (kind : ErrKind) → result ≡ Err (Or.Is kind) → and_then (text_by_arguments given.items) char_row_of ≡ Err kind }
+    ensures ok { IfOk result (λ a. and_then (text_by_arguments given.items) text_row_of ≡ Ok a) }
+    ensures err { (kind : ErrKind) → result ≡ Err (Or.Is kind) → and_then (text_by_arguments given.items) text_row_of ≡ Err kind }
 {
     let text = text_by(alloc, given)?;
-    char_row(alloc, text.as_slice())
+    text_array(alloc, text.as_slice())
 }
 
 /// `num2str`: the display of an array, as characters.

@@ -5,7 +5,7 @@ ghost use Rattle.std.specs.List.{All};
 ghost use Rattle.pl_array.specs.Arrays.{IsCell};
 ghost use Rattle.pl_text.specs.Displayed.{is_char};
 ghost use Rattle.pl_text.specs.Literal.{char_row as char_row_of};
-ghost use Rattle.pl_meaning.specs.Library.{text_by as text_by_arguments};
+ghost use Rattle.pl_meaning.specs.Library.{text_by as text_by_arguments, text_row as text_row_of};
 ghost use Rattle.pl_library.specs.Answering.{by_pattern};
 
 use crate::arguments::arrays_of;
@@ -47,8 +47,19 @@ fn is_text(a: &Arr) -> bool
     matches!(a.class(), Class::Char)
 }
 
+/// A text as an array, where it isn't too long: a row of its characters, and 0x0 where there are none.
+pub(crate) fn text_array(alloc: Global, text: &[u8]) -> Result<Arr, Or<ErrKind>>
+    ensures ok { IfOk result (λ a. text_row_of text.now ≡ Ok a) }
+    ensures err { (kind : ErrKind) → result ≡ Err (Or.Is kind) → text_row_of text.now ≡ Err kind }
+{
+    match text {
+        [] => Ok(Arr::new(Class::Char, Shape { rows: 0, cols: 0 }, Vec::new(alloc))),
+        [_, ..] => char_row(alloc, text),
+    }
+}
+
 /// A text as a row of characters, where it isn't too long.
-pub(crate) fn char_row(alloc: Global, text: &[u8]) -> Result<Arr, Or<ErrKind>>
+fn char_row(alloc: Global, text: &[u8]) -> Result<Arr, Or<ErrKind>>
     ensures ok { IfOk result (λ a. char_row_of text.now ≡ Ok a) }
     ensures err { (kind : ErrKind) → result ≡ Err (Or.Is kind) → char_row_of text.now ≡ Err kind }
 {

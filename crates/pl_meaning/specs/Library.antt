@@ -6,7 +6,7 @@ use Rattle.pl_base.specs.declared.mode.Mode.{Mode}
 use Rattle.pl_base.specs.declared.errors.ErrKind.{ErrKind}
 use Rattle.pl_base.specs.declared.errors.ErrKind.TheVariants.{ArgCount, ArgClass, BadKind, User}
 use Rattle.pl_array.specs.Arrays.{Array}
-use Rattle.pl_array.specs.declared.class.Class.TheVariants.{Int}
+use Rattle.pl_array.specs.declared.class.Class.TheVariants.{Int, Char}
 use Rattle.pl_builtin.specs.Calling.{call_of}
 use Rattle.pl_setfn.specs.Calls.{call_set_of}
 use Rattle.pl_text.specs.Displayed.{is_char, displayed}
@@ -51,11 +51,19 @@ printed text = tell (Print text) >>= (λ u. pure [])
 abbrev pub error_by : Place → List ℕ → Running (List Value)
 error_by place text = raise (record { kind = User; place = place; text = text })
 
+abbrev pub no_text : Array
+no_text = record { class = Char; rows = 0; cols = 0; cells = [] }
+
+-- a text as an array: one without bytes is 0x0
+abbrev pub text_row : List ℕ → Result Array ErrKind
+text_row [] = Ok no_text
+text_row (b ∷ more) = char_row (b ∷ more)
+
 -- what a function that a run carries out itself does; `feval` is a call, and stands with the calls
 abbrev pub own_of : Place → Own → ℕ → List Value → Running (List Value)
 own_of place Disp nout vs = offering 0 nout place (settle place (one_array vs) >>= (λ a. printed (displayed a)))
 own_of place Fprintf nout vs = offering 0 nout place (settle place (text_by vs) >>= (λ text. printed text))
-own_of place Sprintf nout vs = offering 1 nout place (settle place (and_then (text_by vs) char_row) >>= (λ a. given_array a))
+own_of place Sprintf nout vs = offering 1 nout place (settle place (and_then (text_by vs) text_row) >>= (λ a. given_array a))
 own_of place Error nout vs = offering 0 nout place (settle place (text_by vs) >>= (λ text. error_by place text))
 own_of place NumToStr nout vs = offering 1 nout place (settle place (and_then (one_array vs) num2str_of) >>= (λ a. given_array a))
 own_of place MatToStr nout vs = offering 1 nout place (settle place (and_then (one_array vs) mat2str_of) >>= (λ a. given_array a))

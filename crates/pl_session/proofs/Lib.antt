@@ -1,2 +1,4 @@
+pub mod Carried
 pub mod Pieces
+pub mod Printed
 pub mod Refused

@@ -3,7 +3,7 @@ use Rattle.std.proofs.Common.{ℕ, ◌+◌, Option, Some, None, List, [], ◌∷
 use Rattle.std.specs.Prelude.{codes}
 use Rattle.pl_session.specs.Lines.{cannot_read_line}
 use Rattle.std.proofs.Math.Seq.{take-append-add}
-use Rattle.std.proofs.lemmas.List.{take-append-le}
+use Rattle.std.proofs.lemmas.List.{take-append-le, take_all}
 use Rattle.std.specs.Io.KnownBytes.{Appends}
 use Rattle.pl_io.specs.Told.{AppendsPrefix}
 
@@ -55,3 +55,7 @@ on_err_from (Err e) p f = f p
 pub on_ok_from : {T E : Type 0} {P Q : Type 0} (r : Result T E) → OnOk r P → (P → Q) → OnOk r Q
 on_ok_from (Ok x) p f = f p
 on_ok_from (Err e) p f = tt
+
+-- all of the bytes are a first part of them
+pub whole_prefix : (old new : Option (List ℕ)) (bs : List ℕ) → Appends old new bs → AppendsPrefix old new bs
+whole_prefix old new bs a = (length bs, omega arith, subst (Appends old new) (sym (take_all (length bs) bs (omega arith))) a)

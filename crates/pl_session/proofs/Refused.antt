@@ -1,15 +1,8 @@
 -- Why a source is refused.
-use Rattle.std.proofs.Common.{◌≡◌, ℕ, ◌≤◌, ◌⊎◌, inl, inr, List, [], length, take, Option, Some, None, IfSome, Result, Err, subst, sym, ◌∙◌, ap, arith}
+use Rattle.std.proofs.Common.{◌≡◌, ℕ, ◌≤◌, ◌⊎◌, inl, inr, List, [], length, take, Option, Some, None, IfSome, subst, sym, ◌∙◌, ap, arith}
 use Rattle.std.proofs.lemmas.List.{take_all}
 use Rattle.pl_io.specs.Whole.{IsWhole}
-use Rattle.std.specs.Global.{Vec}
-use Rattle.pl_base.specs.declared.memory.Or.{Or}
-use Rattle.pl_form.specs.declared.fault.NotInForm.{NotInForm}
-use Rattle.pl_form.specs.Form.{Prints, IsText}
-use Rattle.pl_session.specs.Ends.{IsNotInForm}
-
-pub not_in_form : (script : List ℕ) (r : Result (Vec ℕ) (Or NotInForm)) (e : NotInForm) → ((text : List ℕ) → Prints script text → IsText text r) → r ≡ Err (Or.Is e) → IsNotInForm script
-not_in_form script r e only is = λ text prints. subst (IsText text) is (only text prints)
+use Rattle.pl_source.specs.Sources.{Refuses}
 
 -- of two statuses neither is a third
 pub neither : (s a b x : ℕ) → (s ≡ a) ⊎ (s ≡ b) → s ≡ x → (a ≡ x → ⊥) → (b ≡ x → ⊥) → ⊥
@@ -29,3 +22,22 @@ part_taken (Some bytes) script taken = inr taken
 
 pub some_is : {A : Type 0} {a b : A} → Some a ≡ Some b → a ≡ b
 some_is h = cc
+
+-- the statuses of a refusal
+pub status_is : (source line : List ℕ) (status : ℕ) → Refuses source status line → (status ≡ 5) ⊎ (status ≡ 7)
+status_is source line status (inl p) = inl p.0
+status_is source line status (inr p) = inr p.0
+
+pub not_four : (status : ℕ) → (status ≡ 5) ⊎ (status ≡ 7) → status ≡ 4 → ⊥
+not_four status (inl a) b = omega (arith, a, b)
+not_four status (inr a) b = omega (arith, a, b)
+
+-- a status of a refusal isn't want of memory
+pub no_nine : (status : ℕ) → (status ≡ 4) ⊎ (status ≡ 5) ⊎ (status ≡ 7) → status ≡ 9 → ⊥
+no_nine status (inl a) b = omega (arith, a, b)
+no_nine status (inr (inl a)) b = omega (arith, a, b)
+no_nine status (inr (inr a)) b = omega (arith, a, b)
+
+pub not_nine : (status : ℕ) → (status ≡ 5) ⊎ (status ≡ 4) → status ≡ 9 → ⊥
+not_nine status (inl a) b = omega (arith, a, b)
+not_nine status (inr a) b = omega (arith, a, b)

@@ -1,41 +1,65 @@
 -- How a call of `top` ends.
-use Rattle.std.specs.Prelude.{◌≡◌, ℕ, ◌<◌, ◌≤◌, ◌⊎◌, Option, List, length}
+use Rattle.std.specs.Prelude.{◌≡◌, ℕ, ◌<◌, ◌≤◌, ◌⊎◌, Option, Some, None, List, [], length}
 use Rattle.std.specs.Io.KnownBytes.{Appends}
+use Rattle.pl_base.specs.declared.errors.ScriptError.{ScriptError}
+use Rattle.pl_errors.specs.Errors.{error_line}
 use Rattle.pl_io.specs.Told.{AppendsPrefix}
-use Rattle.pl_form.specs.Form.{Prints}
-use Rattle.pl_session.specs.Lines.{too_long_line, not_built_line, cannot_read_line}
+use Rattle.pl_resolve.specs.declared.resolved.Resolved.{Resolved}
+use Rattle.pl_meaning.specs.Logs.{Workspace}
+use Rattle.pl_meaning.specs.Running.{Outcome, Done, Raised}
+use Rattle.pl_source.specs.Sources.{Ready, Refuses}
+use Rattle.pl_session.specs.declared.ended.Journal.{Journal}
+use Rattle.pl_session.specs.Lines.{too_long_line, cannot_read_line}
+use Rattle.pl_session.specs.Told.{printed}
+use Rattle.pl_session.specs.Printing.{run_of}
+use Rattle.pl_session.specs.Words.{Command}
 
--- no script in the form
-abbrev pub IsNotInForm : List ℕ → Type 0
-IsNotInForm script = (text : List ℕ) → Prints script text → ⊥
+-- the script can be run, and this is its run
+abbrev pub Runs : List ℕ → ℕ → Outcome → Type 0
+Runs script turns o = (length script ≤ 1000000) × ((r : Resolved) × Ready script r × (o ≡ run_of r turns))
 
--- the script is no program, and this line says why
-abbrev pub Refuses : List ℕ → List ℕ → Type 0
-Refuses script line =
-    ((1000000 < length script) × (line ≡ too_long_line)) ⊎
-    ((length script ≤ 1000000) × IsNotInForm script × (line ≡ not_built_line))
+-- its run ends behind its last statement
+abbrev pub IsDone : Outcome → Type 0
+IsDone o = (env : Workspace) × (o.ending ≡ Done env)
 
--- the script is in the form and prints this text
-abbrev pub Runs : List ℕ → List ℕ → Type 0
-Runs script text = (length script ≤ 1000000) × Prints script text
+-- the script isn't run: it is too long, or is refused
+abbrev pub IsRefused : List ℕ → ℕ → List ℕ → Type 0
+IsRefused script status line =
+    ((1000000 < length script) × (status ≡ 5) × (line ≡ too_long_line)) ⊎
+    ((length script ≤ 1000000) × Refuses script status line)
 
--- the sink grew by the text of the script
-abbrev pub WritesText : List ℕ → Option (List ℕ) → Option (List ℕ) → Type 0
-WritesText script old new = (text : List ℕ) × Runs script text × Appends old new text
+-- the script ended, and the sink grew by all that it prints
+abbrev pub Ends : List ℕ → ℕ → Option (List ℕ) → Option (List ℕ) → Type 0
+Ends script turns old new = (o : Outcome) × Runs script turns o × IsDone o × Appends old new (printed o.shown)
 
--- the sink grew by the first bytes of the text of the script, or not at all
-abbrev pub WritesPart : List ℕ → Option (List ℕ) → Option (List ℕ) → Type 0
-WritesPart script old new = (old ≡ new) ⊎ ((text : List ℕ) × Runs script text × AppendsPrefix old new text)
+-- the script raised an error: the sink grew by all that it prints, and the notes by the error's line
+abbrev pub Raises : List ℕ → ℕ → Option (List ℕ) → Option (List ℕ) → Option (List ℕ) → Option (List ℕ) → Type 0
+Raises script turns old new notes_old notes_new =
+    (o : Outcome) × Runs script turns o × ((e : ScriptError) × (o.ending ≡ Raised e) × Appends notes_old notes_new (error_line e)) × Appends old new (printed o.shown)
+
+-- the sink grew by the first bytes of what the script prints, or not at all
+abbrev pub PrintsPart : List ℕ → ℕ → Option (List ℕ) → Option (List ℕ) → Type 0
+PrintsPart script turns old new = (old ≡ new) ⊎ ((o : Outcome) × Runs script turns o × AppendsPrefix old new (printed o.shown))
 
 -- the sink grew by the line that refuses the script
-abbrev pub WritesRefusal : List ℕ → Option (List ℕ) → Option (List ℕ) → Type 0
-WritesRefusal script old new = (line : List ℕ) × Refuses script line × Appends old new line
+abbrev pub WritesRefusal : List ℕ → ℕ → Option (List ℕ) → Option (List ℕ) → Type 0
+WritesRefusal script status old new = (line : List ℕ) × IsRefused script status line × Appends old new line
 
--- the sink grew by the first bytes of the line that refuses the script, or not at all
-abbrev pub WritesRefusalPart : List ℕ → Option (List ℕ) → Option (List ℕ) → Type 0
-WritesRefusalPart script old new = (old ≡ new) ⊎ ((line : List ℕ) × Refuses script line × AppendsPrefix old new line)
+-- a line of the notes of a script: why it isn't run, or the error that it raised
+abbrev pub IsLine : List ℕ → ℕ → List ℕ → Type 0
+IsLine script turns line =
+    ((status : ℕ) × IsRefused script status line) ⊎
+    ((o : Outcome) × Runs script turns o × ((e : ScriptError) × (o.ending ≡ Raised e) × (line ≡ error_line e)))
 
--- the sink grew by the first bytes of the line of a call that named this file, or not at all: that it can't be read, or
--- that the script is no program
-abbrev pub WritesLinePart : List ℕ → List ℕ → Option (List ℕ) → Option (List ℕ) → Type 0
-WritesLinePart name script old new = WritesRefusalPart script old new ⊎ AppendsPrefix old new (cannot_read_line name)
+-- the notes grew by the first bytes of such a line, or not at all
+abbrev pub NotesPart : List ℕ → ℕ → Option (List ℕ) → Option (List ℕ) → Type 0
+NotesPart script turns old new = (old ≡ new) ⊎ ((line : List ℕ) × IsLine script turns line × AppendsPrefix old new line)
+
+-- or by the first bytes of the line of a file of this name that can't be read
+abbrev pub LinePart : List ℕ → List ℕ → ℕ → Option (List ℕ) → Option (List ℕ) → Type 0
+LinePart name script turns old new = NotesPart script turns old new ⊎ AppendsPrefix old new (cannot_read_line name)
+
+-- the choices of a run that asks no question: none, under the command's limits
+abbrev pub journal_of : Option Command → Journal
+journal_of None = record { version = 1; workers = 4; turns = 100000000; entries = [] }
+journal_of (Some c) = record { version = 1; workers = c.workers; turns = c.turns; entries = [] }

@@ -1,3 +1,5 @@
 pub mod Words
 pub mod Lines
+pub mod Told
+pub mod Printing
 pub mod Ends

@@ -1,4 +1,4 @@
--- The lines of the notes.
+-- The lines of the notes that don't depend on the script.
 use Rattle.std.specs.Prelude.{ℕ, List, [], ◌∷◌, ◌++◌, codes}
 
 abbrev pub usage_line : List ℕ
@@ -9,6 +9,3 @@ cannot_read_line name = codes "parlab: cannot read " ++ name ++ 10 ∷ []
 
 abbrev pub too_long_line : List ℕ
 too_long_line = codes "parlab: source too long\n"
-
-abbrev pub not_built_line : List ℕ
-not_built_line = codes "parlab: not built\n"

@@ -1,15 +1,72 @@
 -- The words of the command line.
-use Rattle.std.specs.Prelude.{ℕ, Bool, false, not, ◌&&◌, ◌==◌, if◌then◌else◌, Option, Some, None, List, [], ◌∷◌, nat_eq, codes}
+use Rattle.std.specs.Prelude.{ℕ, ◌+◌, ◌-◌, ◌*◌, min, nat_le, Bool, false, not, ◌&&◌, ◌==◌, if◌then◌else◌, Option, Some, None, option_map, option_and_then, unwrap_or, List, [], ◌∷◌, length, nat_eq, codes}
+use Rattle.std.specs.List.{list_all}
 use Rattle.std.specs.Cmp.Lexicographic.{pointwise}
+use Rattle.pl_session.specs.declared.words.Options.{Options}
 
 -- a file's name isn't empty and doesn't begin with `-`
 abbrev pub is_name : List ℕ → Bool
 is_name [] = false
 is_name (c ∷ cs) = not (c == 45)
 
--- the file that the words name, where they are `run FILE`; none where they are anything else
-abbrev pub file_of : List (List ℕ) → Option (List ℕ)
-file_of [] = None
-file_of (command ∷ []) = None
-file_of (command ∷ name ∷ []) = if pointwise nat_eq command (codes "run") && is_name name then Some name else None
-file_of (command ∷ name ∷ more ∷ others) = None
+abbrev pub is_digit : ℕ → Bool
+is_digit c = nat_le 48 c && nat_le c 57
+
+-- the number of which the digits so far are n, when these digits follow; it stops at 10,000,000,000, past all ranges
+abbrev pub digit_onto : ℕ → ℕ → ℕ
+digit_onto n c = min (n * 10 + (c - 48)) 10000000000
+
+abbrev pub number_onto : ℕ → List ℕ → ℕ
+number_onto n [] = n
+number_onto n (c ∷ cs) = number_onto (digit_onto n c) cs
+
+-- a number in a range, of one to ten digits
+abbrev pub in_range : ℕ → ℕ → ℕ → Option ℕ
+in_range least most n = if nat_le least n && nat_le n most then Some n else None
+
+abbrev pub is_number : List ℕ → Bool
+is_number word = nat_le 1 (length word) && (nat_le (length word) 10 && list_all is_digit word)
+
+abbrev pub number_of : ℕ → ℕ → List ℕ → Option ℕ
+number_of least most word = if is_number word then in_range least most (number_onto 0 word) else None
+
+abbrev pub same : List ℕ → List ℕ → Bool
+same a b = pointwise nat_eq a b
+
+-- an option stands once at most
+abbrev pub with_workers : Options → Option ℕ → List ℕ → Option Options
+with_workers o (Some n) word = None
+with_workers o None word = option_map (λ n. record o { workers = Some n }) (number_of 1 64 word)
+
+abbrev pub with_turns : Options → Option ℕ → List ℕ → Option Options
+with_turns o (Some n) word = None
+with_turns o None word = option_map (λ n. record o { turns = Some n }) (number_of 1 1000000000 word)
+
+-- an option's word, and the word behind it
+abbrev pub with_option : Options → List ℕ → List ℕ → Option Options
+with_option o word value =
+    if same (codes "--workers") word then with_workers o o.workers value else
+    if same (codes "--turns") word then with_turns o o.turns value else None
+
+abbrev pub options_from : Options → List (List ℕ) → Option Options
+options_from o [] = Some o
+options_from o (word ∷ []) = None
+options_from o (word ∷ value ∷ more) = option_and_then (λ p. options_from p more) (with_option o word value)
+
+abbrev pub no_options : Options
+no_options = record { workers = None; turns = None }
+
+-- what is to be run: a file, with so many workers, and so many turns for each activity
+pub record Command : Type 0 where
+  pub name : List ℕ
+  pub workers : ℕ
+  pub turns : ℕ
+
+abbrev pub command_with : List ℕ → Options → Command
+command_with name o = record { name = name; workers = unwrap_or o.workers 4; turns = unwrap_or o.turns 100000000 }
+
+-- the command that the words are, `run FILE` with its options; none where they are anything else
+abbrev pub command_of : List (List ℕ) → Option Command
+command_of [] = None
+command_of (command ∷ []) = None
+command_of (command ∷ name ∷ more) = if same (codes "run") command && is_name name then option_map (command_with name) (options_from no_options more) else None

@@ -5,8 +5,8 @@ ghost use Rattle.std.specs.Prelude.{◌≡◌, []};
 use pl_base::{Choice, Seq};
 use std::alloc::Global;
 
-/// The exit status: 0 the script ended, 2 usage, 3 a read fault, 4 a write fault, 5 no program, 9 want
-/// of memory.
+/// The exit status: 0 the script ended, 1 it raised an error, 2 usage, 3 a read fault, 4 a write fault, 5 no
+/// program, 7 an unknown name, 9 want of memory.
 #[derive(Clone, Copy, Debug, PartialEq, Eq)]
 pub struct Status(pub u8);
 
@@ -28,18 +28,33 @@ pub struct Ended {
     pub script: Seq<u8>,
 }
 
-/// An end with no choices, under the default workers and turns.
-pub fn end_with(alloc: Global, status: u8, script: Seq<u8>) -> Ended
+/// The limits of a run: the workers, and the turns of each activity.
+#[derive(Clone, Copy, Debug)]
+pub(crate) struct Limits {
+    pub workers: u32,
+    pub turns: u64,
+}
+
+impl Limits {
+    /// Those that hold where a command says nothing else.
+    pub(crate) const DEFAULT: Limits = Limits {
+        workers: 4,
+        turns: 100_000_000,
+    };
+}
+
+/// An end with no choices.
+pub(crate) fn end_with(alloc: Global, status: u8, limits: Limits, script: Seq<u8>) -> Ended
     ensures status { result.status.0 ≡ status }
-    ensures journal { result.journal ≡ record { version = 1; workers = 4; turns = 100000000; entries = [] } }
+    ensures journal { result.journal ≡ record { version = 1; workers = limits.workers; turns = limits.turns; entries = [] } }
     ensures script { result.script ≡ script }
 {
     Ended {
         status: Status(status),
         journal: Journal {
             version: 1,
-            workers: 4,
-            turns: 100_000_000,
+            workers: limits.workers,
+            turns: limits.turns,
             entries: Seq::empty(alloc),
         },
         script,

@@ -1,7 +1,11 @@
 //! A session: the words of the command line, the script that they name, and what becomes of it.
 #![tactic(auto)]
 
+mod carrying;
+mod client;
 mod ended;
+mod notes;
+mod running;
 mod session;
 mod words;
 

@@ -1,13 +1,34 @@
 //! What the words of the command line ask for.
 
-ghost use Rattle.std.specs.Prelude.{◌≡◌, Some, None, MatchOption};
-ghost use Rattle.pl_session.specs.Words.{file_of as file_in, is_name as is_name_word};
+ghost use Rattle.std.specs.Prelude.{◌≡◌, ◌≤◌, ◌<◌, ◌^◌, length, Some, None, IfSome, MatchOption};
+ghost use Rattle.std.specs.List.{list_all};
+ghost use Rattle.pl_session.specs.Words as spec;
 
 use pl_base::Word;
 
+/// The most workers, and the most turns of an activity.
+const MOST_WORKERS: u64 = 64;
+
+const MOST_TURNS: u64 = 1_000_000_000;
+
+/// The options behind a file's name, each of which may be given or not.
+#[derive(Clone, Copy, Debug)]
+pub struct Options {
+    pub workers: Option<u32>,
+    pub turns: Option<u64>,
+}
+
+/// What is to be run: a file, with so many workers, and so many turns for each activity.
+#[derive(Clone, Copy, Debug)]
+pub struct Command<'w> {
+    pub name: &'w [u8],
+    pub workers: u32,
+    pub turns: u64,
+}
+
 /// A file's name isn't empty and doesn't begin with `-`.
 fn is_name(word: &[u8]) -> bool
-    ensures { result ≡ is_name_word word.now }
+    ensures { result ≡ spec.is_name word.now }
 {
     match word {
         [] => false,
@@ -15,14 +36,141 @@ fn is_name(word: &[u8]) -> bool
     }
 }
 
-/// The file that the words name, where they are `run FILE`.
-pub fn file_of(words: &[Word]) -> Option<&[u8]>
-    ensures { MatchOption result (file_in words.now ≡ None) (λ name. file_in words.now ≡ Some name.now) }
+fn is_digit(byte: u8) -> bool
+    ensures { result ≡ spec.is_digit byte }
 {
-    match words {
-        [command, name] if command.bytes() == b"run".as_slice() && is_name(name.bytes()) => {
-            Some(name.bytes())
+    byte >= b'0' && byte <= b'9'
+}
+
+/// Whether all of these are digits.
+fn are_digits(word: &[u8]) -> bool
+    ensures { result ≡ list_all spec.is_digit word.now }
+{
+    for byte in word {
+        if !is_digit(*byte) {
+            return false;
         }
-        _ => None,
     }
+    true
+}
+
+fn is_number(word: &[u8]) -> bool
+    ensures { result ≡ spec.is_number word.now }
+{
+    !word.is_empty() && word.len() <= 10 && are_digits(word)
+}
+
+/// A number, and a digit behind it.
+fn digit_onto(number: u64, byte: u8) -> u64
+    ensures { result ≡ spec.digit_onto number byte }
+{
+    let digit = u64::from(byte.saturating_sub(b'0'));
+    number
+        .saturating_mul(10)
+        .saturating_add(digit)
+        .min(10_000_000_000)
+}
+
+/// The number of digits.
+fn number(word: &[u8]) -> u64
+    ensures { result ≡ spec.number_onto 0 word.now }
+{
+    let mut number = 0;
+    for byte in word {
+        number = digit_onto(number, *byte);
+    }
+    number
+}
+
+/// The number of a word, where it is one in a range.
+fn number_of(least: u64, most: u64, word: &[u8]) -> Option<u64>
+    ensures value { result ≡ spec.number_of least most word.now }
+    ensures within { IfSome result (λ n. n ≤ most) }
+{
+    if !is_number(word) {
+        return None;
+    }
+    let number = number(word);
+    if least <= number && number <= most {
+        Some(number)
+    } else {
+        None
+    }
+}
+
+fn with_workers(options: Options, word: &[u8]) -> Option<Options>
+    ensures { result ≡ spec.with_workers options options.workers word.now }
+{
+    match options.workers {
+        Some(_) => None,
+        None => {
+            let workers = Some(number_of(1, MOST_WORKERS, word)? as u32);
+            Some(Options { workers, ..options })
+        }
+    }
+}
+
+fn with_turns(options: Options, word: &[u8]) -> Option<Options>
+    ensures { result ≡ spec.with_turns options options.turns word.now }
+{
+    match options.turns {
+        Some(_) => None,
+        None => {
+            let turns = Some(number_of(1, MOST_TURNS, word)?);
+            Some(Options { turns, ..options })
+        }
+    }
+}
+
+fn same(a: &[u8], b: &[u8]) -> bool
+    ensures { result ≡ spec.same a.now b.now }
+{
+    a == b
+}
+
+/// An option more, by its word and the word behind it.
+fn with_option(options: Options, word: &[u8], value: &[u8]) -> Option<Options>
+    ensures { result ≡ spec.with_option options word.now value.now }
+{
+    match (same(b"--workers", word), same(b"--turns", word)) {
+        (true, _) => with_workers(options, value),
+        (false, true) => with_turns(options, value),
+        (false, false) => None,
+    }
+}
+
+/// The options that words are.
+fn options_from(options: Options, words: &[Word]) -> Option<Options>
+    ensures { result ≡ spec.options_from options words.now }
+{
+    let Some((word, behind)) = words.split_first() else {
+        return Some(options);
+    };
+    let Some((value, more)) = behind.split_first() else {
+        return None;
+    };
+    let options = with_option(options, word.bytes(), value.bytes())?;
+    options_from(options, more)
+}
+
+/// The command that the words are: `run FILE` with its options.
+pub fn command_of(words: &[Word]) -> Option<Command<'_>>
+    ensures { MatchOption result (spec.command_of words.now ≡ None) (λ c. spec.command_of words.now ≡ Some (record { name = c.name.now; workers = c.workers; turns = c.turns })) }
+{
+    let [command, name, more @ ..] = words else {
+        return None;
+    };
+    if command.bytes() != b"run".as_slice() || !is_name(name.bytes()) {
+        return None;
+    }
+    let none = Options {
+        workers: None,
+        turns: None,
+    };
+    let options = options_from(none, more)?;
+    Some(Command {
+        name: name.bytes(),
+        workers: options.workers.unwrap_or(4),
+        turns: options.turns.unwrap_or(100_000_000),
+    })
 }

@@ -1,15 +1,28 @@
-use Rattle.std.proofs.Common.{ℕ, List, inl, subst, sym}
-use Rattle.pl_session.specs.Ends.{WritesRefusal, WritesRefusalPart}
-use Rattle.pl_session.proofs.Refused.{whole_taken, part_taken}
+use Rattle.std.proofs.Common.{rules, ℕ, List, inl, inr, refl, subst, sym}
+use Rattle.pl_session.specs.Lines.{too_long_line}
+use Rattle.pl_session.specs.Ends.{Ends, Raises, PrintsPart, NotesPart, WritesRefusal}
+use Rattle.pl_session.proofs.Refused.{whole_taken, part_taken, not_nine}
 use Rattle.pl_session.proofs.session.run_file.Goals as goal
+
+pub returns-in-Ok-clause-done : goal.returns-in-Ok-clause-done
+returns-in-Ok-clause-done g c = λ zero.
+    subst (λ (script : List ℕ). Ends script c.args.limits.turns (g.K.Sink.written c.args.out.now) (g.K.Sink.written c.run_source.new.out)) (sym c.run_source.ensures.script) (c.run_source.ensures.done zero)
+
+pub returns-in-Ok-clause-raised : goal.returns-in-Ok-clause-raised
+returns-in-Ok-clause-raised g c = λ one.
+    subst (λ (script : List ℕ). Raises script c.args.limits.turns (g.K.Sink.written c.args.out.now) (g.K.Sink.written c.run_source.new.out) (g.N.Sink.written c.args.notes.now) (g.N.Sink.written c.run_source.new.notes)) (sym c.run_source.ensures.script) (c.run_source.ensures.raised one)
 
 pub returns-in-Ok-clause-refused : goal.returns-in-Ok-clause-refused
 returns-in-Ok-clause-refused g c = λ five.
-    subst (λ (script : List ℕ). WritesRefusal script (g.N.Sink.written c.args.notes.now) (g.N.Sink.written c.run_source.new.notes)) (sym c.run_source.ensures.script) (c.run_source.ensures.refused five)
+    subst (λ (script : List ℕ). WritesRefusal script c.run_source.result.status.0 (g.N.Sink.written c.args.notes.now) (g.N.Sink.written c.run_source.new.notes)) (sym c.run_source.ensures.script) (c.run_source.ensures.refused five)
+
+pub returns-in-Ok-clause-part : goal.returns-in-Ok-clause-part
+returns-in-Ok-clause-part g c = λ ends.
+    subst (λ (script : List ℕ). PrintsPart script c.args.limits.turns (g.K.Sink.written c.args.out.now) (g.K.Sink.written c.run_source.new.out)) (sym c.run_source.ensures.script) (c.run_source.ensures.part ends)
 
 pub returns-in-Ok-clause-notes_part : goal.returns-in-Ok-clause-notes_part
 returns-in-Ok-clause-notes_part g c = λ ends.
-    inl (subst (λ (script : List ℕ). WritesRefusalPart script (g.N.Sink.written c.args.notes.now) (g.N.Sink.written c.run_source.new.notes)) (sym c.run_source.ensures.script) (c.run_source.ensures.notes_part ends))
+    inl (subst (λ (script : List ℕ). NotesPart script c.args.limits.turns (g.N.Sink.written c.args.notes.now) (g.N.Sink.written c.run_source.new.notes)) (sym c.run_source.ensures.script) (c.run_source.ensures.notes_part ends))
 
 pub returns-in-Ok-clause-script : goal.returns-in-Ok-clause-script
 returns-in-Ok-clause-script g c = λ ends.
@@ -18,3 +31,9 @@ returns-in-Ok-clause-script g c = λ ends.
 pub returns-in-Ok-clause-script_part : goal.returns-in-Ok-clause-script_part
 returns-in-Ok-clause-script_part g c =
     part_taken (g.F.Files.bytes c.args.files.now c.args.name.now) c.run_source.result.script (whole_taken (g.F.Files.bytes c.args.files.now c.args.name.now) c.in-Ok.source.items c.run_source.result.script c.in-Ok.ensures.whole c.run_source.ensures.script)
+
+-- a file that is too long
+pub returns-in-Err-Is-TooLong-clause-notes_part : goal.returns-in-Err-Is-TooLong-clause-notes_part
+returns-in-Err-Is-TooLong-clause-notes_part g c = λ ends.
+    inl (subst (λ (script : List ℕ). NotesPart script c.args.limits.turns (g.N.Sink.written c.args.notes.now) (g.N.Sink.written c.close.new.notes)) (sym c.close.ensures.script)
+    (inr (too_long_line, inl (5, inl (search rules, refl, refl)), c.close.ensures.part (elim ends [ inl four ↦ four | inr nine ↦ absurd (not_nine c.close.result.status.0 c.close.ensures.statuses nine) ]))))

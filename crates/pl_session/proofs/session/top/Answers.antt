@@ -1,10 +1,14 @@
-use Rattle.std.proofs.Common.{◌≡◌, ℕ, List, subst, sym, ◌∙◌}
-use Rattle.pl_session.specs.Ends.{WritesLinePart}
+use Rattle.std.proofs.Common.{◌≡◌, ℕ, List, subst, sym, ◌∙◌, ap}
+use Rattle.pl_session.specs.declared.ended.Journal.{Journal}
+use Rattle.pl_session.specs.Words.{Command}
+use Rattle.pl_session.specs.Ends.{LinePart}
 use Rattle.pl_session.proofs.Refused.{some_is}
 use Rattle.pl_session.proofs.session.top.Goals as goal
 
--- the name that was read is the name of the words
+-- the command that was carried out is the one of the words
 pub returns-in-Some-clause-notes_part : goal.returns-in-Some-clause-notes_part
-returns-in-Some-clause-notes_part g c = λ name is ends.
-    let same : c.in-Some.name.now ≡ name = some_is (sym c.in-Some.ensures ∙ is) in
-    subst (λ (n : List ℕ). WritesLinePart n c.run_file.result.script (g.N.Sink.written c.args.notes.now) (g.N.Sink.written c.run_file.new.notes)) same (c.run_file.ensures.notes_part ends)
+returns-in-Some-clause-notes_part g c = λ command is ends.
+    let name : c.in-Some.command.name.now ≡ command.name = ap (λ (x : Command). x.name) (some_is (sym c.in-Some.ensures ∙ is)) in
+    let turns : c.in-Some.command.turns ≡ c.run_file.result.journal.turns = sym (ap (λ (j : Journal). j.turns) c.run_file.ensures.journal) in
+    subst (λ (n : List ℕ). LinePart n c.run_file.result.script c.run_file.result.journal.turns (g.N.Sink.written c.args.notes.now) (g.N.Sink.written c.run_file.new.notes)) name
+    (subst (λ (t : ℕ). LinePart c.in-Some.command.name.now c.run_file.result.script t (g.N.Sink.written c.args.notes.now) (g.N.Sink.written c.run_file.new.notes)) turns (c.run_file.ensures.notes_part ends))

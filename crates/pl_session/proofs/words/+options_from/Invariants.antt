@@ -1,0 +1,6 @@
+-- Each call has fewer words.
+use Rattle.std.proofs.Common.{length}
+use Rattle.pl_session.proofs.words.+options_from.Given as goal
+
+abbrev pub decreases-options_from : goal.decreases-options_from
+decreases-options_from l = length l.words.now
