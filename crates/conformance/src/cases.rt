@@ -23,6 +23,8 @@ pub struct Wanted {
     pub status: u8,
     pub outs: Seq<Text>,
     pub notes: Text,
+    /// The choices of its journal, a line each, where they matter.
+    pub choices: Option<Text>,
 }
 
 #[derive(Debug, Drop)]

@@ -1,6 +1,6 @@
 //! What a run left, held against what was wanted of it.
 
-ghost use Rattle.std.specs.Prelude.{◌≡◌, ◌↔◌, IsTrue, Contains};
+ghost use Rattle.std.specs.Prelude.{◌≡◌, ◌↔◌, IsTrue, IfSome, Contains};
 ghost use Rattle.conformance.specs.Passes.{Passes};
 ghost use Rattle.conformance.specs.declared.compare.Verdict.{Verdict};
 
@@ -13,6 +13,8 @@ pub struct Seen {
     pub status: u8,
     pub out: Text,
     pub notes: Text,
+    /// The choices of its journal, a line each.
+    pub choices: Text,
 }
 
 /// Where two texts differ first: a line of each, counted from 1, with its end. A text that has no such
@@ -24,13 +26,14 @@ pub struct Difference<'a> {
     pub got: Option<&'a [u8]>,
 }
 
-/// How a run compares with what was wanted: the first of status, output and notes that is wrong.
+/// How a run compares with what was wanted: the first of status, output, notes and choices that is wrong.
 #[derive(Clone, Copy, Debug)]
 pub enum Verdict {
     Passed,
     WrongStatus,
     WrongOut,
     WrongNotes,
+    WrongChoices,
 }
 
 pub fn judge(wanted: &Wanted, seen: &Seen) -> Verdict
@@ -45,6 +48,9 @@ pub fn judge(wanted: &Wanted, seen: &Seen) -> Verdict
     if seen.notes != wanted.notes {
         return Verdict::WrongNotes;
     }
+    if !is_wanted(&wanted.choices, &seen.choices) {
+        return Verdict::WrongChoices;
+    }
     Verdict::Passed
 }
 
@@ -53,6 +59,16 @@ fn is_allowed(allowed: &Seq<Text>, text: &Text) -> bool
     ensures { IsTrue result ↔ Contains allowed.now text.now }
 {
     allowed.items().contains(text)
+}
+
+/// The text is the one that is wanted, or any where none is.
+fn is_wanted(wanted: &Option<Text>, text: &Text) -> bool
+    ensures { IsTrue result ↔ IfSome wanted.now (λ w. w ≡ text.now) }
+{
+    match wanted {
+        Some(wanted) => wanted == text,
+        None => true,
+    }
 }
 
 /// The first line in which the texts differ. Texts that are equal differ where both have ended.

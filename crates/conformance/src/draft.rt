@@ -25,6 +25,7 @@ pub struct Draft {
     status: Option<u8>,
     outs: Vec<Text>,
     notes: Option<Text>,
+    choices: Option<Text>,
     with_all_workers: bool,
 }
 
@@ -50,6 +51,7 @@ impl Draft {
             status: None,
             outs: Vec::new(alloc),
             notes: None,
+            choices: None,
             with_all_workers: false,
         })
     }
@@ -90,6 +92,7 @@ impl Draft {
                 self.add_out(text)
             }
             Mark::Notes => once(&mut self.notes, Text::from_vec(joined(text))),
+            Mark::Choices => once(&mut self.choices, Text::from_vec(joined(text))),
             Mark::Status(status) => once(&mut self.status, status),
             Mark::Fail(object, call) => self.add_fail(object, call),
             Mark::Room(Object::Notes, room) => once(&mut self.notes_room, room),
@@ -139,6 +142,7 @@ impl Draft {
             status,
             mut outs,
             notes,
+            choices,
             with_all_workers,
         } = self;
         let Some(words) = words else {
@@ -151,6 +155,7 @@ impl Draft {
             status: status.unwrap_or(0),
             outs: Seq::of(outs),
             notes: notes.unwrap_or(Text::from_vec(Vec::new(alloc))),
+            choices,
         };
         Ok(Case {
             name,

@@ -6,6 +6,7 @@
 #![tactic(auto)]
 
 mod cases;
+mod choices;
 mod compare;
 mod draft;
 mod malformed;

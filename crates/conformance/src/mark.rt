@@ -23,6 +23,8 @@ pub enum Mark<'a> {
     Or,
     /// The notes that are wanted follow.
     Notes,
+    /// The choices that are wanted follow, a line each.
+    Choices,
     Status(u8),
     /// The call of this number, from 1, fails.
     Fail(Object, u64),
@@ -55,6 +57,7 @@ impl<'a> Mark<'a> {
             b"out" => Ok(Mark::Out),
             b"or" => Ok(Mark::Or),
             b"notes" => Ok(Mark::Notes),
+            b"choices" => Ok(Mark::Choices),
             b"all" => Ok(Mark::AllWorkers),
             _ => Err(Reason::UnknownMark),
         }
@@ -87,7 +90,10 @@ impl<'a> Mark<'a> {
 
     /// Text may follow that belongs to the mark.
     pub fn has_text(&self) -> bool {
-        matches!(self, Mark::File(_) | Mark::Out | Mark::Or | Mark::Notes)
+        matches!(
+            self,
+            Mark::File(_) | Mark::Out | Mark::Or | Mark::Notes | Mark::Choices
+        )
     }
 }
 

@@ -137,6 +137,12 @@ fn print_verdict(rt: &impl Print, case: &Case, seen: &Seen, verdict: Verdict) ->
         Verdict::WrongNotes => {
             print_difference(rt, "notes", wanted.notes.bytes(), seen.notes.bytes())
         }
+        Verdict::WrongChoices => match &wanted.choices {
+            Some(choices) => {
+                print_difference(rt, "choices", choices.bytes(), seen.choices.bytes())
+            }
+            None => Ok(()),
+        },
     }
 }
 

@@ -1,6 +1,7 @@
 //! Runs one case, over files and sinks in memory.
 
 use crate::cases::{Case, Limits};
+use crate::choices;
 use crate::compare::Seen;
 use pl_base::{Free, NoMemory, Text, Word};
 use pl_io::{MemFiles, MemSink};
@@ -51,5 +52,6 @@ pub fn run<R: Threads + Wait + Sync>(
         status: ended.status.0,
         out: Text::of(alloc, out.written())?,
         notes: Text::of(alloc, notes.written())?,
+        choices: choices::lines(alloc, ended.journal.entries.items())?,
     })
 }

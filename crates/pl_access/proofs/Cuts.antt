@@ -14,4 +14,4 @@ front_grown (Some ts) more = ap Some (take-append_seam ts more)
 -- a run that went no further for want of memory
 pub cut : (l : Log) (o : Outcome) (behind : ScriptError → Seen) → view Halt.Memory l (seen l o) ≡ viewed Halt.Memory l behind
 cut l o behind =
-    ap (λ (shown : Option (List Trace)). record { shown = shown; ending = Done []; stops = l.stops; rose = false; sink = l.sink }) (front_grown l.shown o.shown)
+    ap (λ (shown : Option (List Trace)). record { shown = shown; ending = Done [] []; stops = l.stops; rose = false; sink = l.sink }) (front_grown l.shown o.shown)

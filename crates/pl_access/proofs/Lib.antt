@@ -1,3 +1,4 @@
+mod Asks
 pub mod Cuts
 pub mod Halted
 mod Slots

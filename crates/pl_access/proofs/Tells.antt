@@ -43,7 +43,7 @@ pub told : (e : Event) (env : Workspace) (turns : ℕ) (old new : Log) → new �
     Went (tell e) (record { env = env; turns = turns; log = old }) tt (record { env = env; turns = turns; log = new })
 unfolding tell
 told e env turns old new is =
-    rw is (λ k h all b. ap (λ (shown : Option (List Trace)). record { shown = shown; ending = (k tt (record { env = env; turns = turns; answers = drop (length old.given) all })).ending; stops = old.stops; rose = false; sink = old.sink }) (grown_twice old.shown (shows e) (k tt (record { env = env; turns = turns; answers = drop (length old.given) all })).shown))
+    rw is (λ k h all b. ap (λ (shown : Option (List Trace)). record { shown = shown; ending = (k tt (record { env = env; turns = turns; choices = drop (length old.given) all; rules = old.rules })).ending; stops = old.stops; rose = false; sink = old.sink }) (grown_twice old.shown (shows e) (k tt (record { env = env; turns = turns; choices = drop (length old.given) all; rules = old.rules })).shown))
 
 -- the world stopped, and was told a first part
 pub told_part : (e : Event) (env : Workspace) (turns : ℕ) (old new : Log) (n m : ℕ) → rose old.stops m ≡ true → new ≡ record old { shown = grown old.shown (take n (shows e)); stops = m } →
@@ -51,8 +51,8 @@ pub told_part : (e : Event) (env : Workspace) (turns : ℕ) (old new : Log) (n m
 unfolding tell
 told_part e env turns old new n m up is =
     rw is (λ k h all b.
-    ap (λ (shown : Option (List Trace)). record { shown = shown; ending = Done []; stops = m; rose = rose old.stops m; sink = old.sink }) (first_part old.shown n (shows e) (k tt (record { env = env; turns = turns; answers = drop (length old.given) all })).shown)
-    ∙ ap (λ (up : Bool). record { shown = grown old.shown (take n (shows e)); ending = Done []; stops = m; rose = up; sink = old.sink }) up)
+    ap (λ (shown : Option (List Trace)). record { shown = shown; ending = Done [] []; stops = m; rose = rose old.stops m; sink = old.sink }) (first_part old.shown n (shows e) (k tt (record { env = env; turns = turns; choices = drop (length old.given) all; rules = old.rules })).shown)
+    ∙ ap (λ (up : Bool). record { shown = grown old.shown (take n (shows e)); ending = Done [] []; stops = m; rose = up; sink = old.sink }) up)
 
 -- what was given and shown stays given and shown
 pub keeps : (env : Workspace) (turns : ℕ) (old new : Log) (more : List Trace) (m : ℕ) → new ≡ record old { shown = grown old.shown more; stops = m } →

@@ -62,7 +62,7 @@ pub fn array_at(alloc: Global, place: Place, v: &Value) -> Result<&Arr, Halt>
 }
 
 /// The array of a value.
-fn array_of(v: &Value) -> Result<&Arr, ErrKind>
+pub(crate) fn array_of(v: &Value) -> Result<&Arr, ErrKind>
     ensures ok { IfOk result (λ a. array_in v.now ≡ Ok a.now) }
     ensures err { (kind : ErrKind) → result ≡ Err kind → array_in v.now ≡ Err kind }
 {

@@ -6,11 +6,15 @@
 #![tactic(auto)]
 
 mod access;
+mod asking;
+mod bounding;
 mod failing;
 mod storing;
 mod telling;
 
 pub use access::{check, erase_part, read, read_end, read_part, take_turn, write, write_part};
+pub use asking::ask;
+pub use bounding::bounds_at;
 pub use failing::{array_at, fail};
 pub use pl_base::Or;
 pub use pl_meaning::Halt;

@@ -1,8 +1,9 @@
 -- From the promise of a script's statements to that of its whole run.
-use Rattle.std.proofs.Common.{◌≡◌, ℕ, ◌+◌, ◌-◌, ◌≤◌, List, [], ◌++◌, length, take, Option, Some, None, true, refl, ap, ◌∙◌, sym, arith}
-use Rattle.std.proofs.Math.Seq.{take-length, take-append-add}
+use Rattle.std.proofs.Common.{◌≡◌, ℕ, ◌+◌, ◌-◌, ◌≤◌, List, [], ◌++◌, length, take, drop, Option, Some, None, true, refl, ap, ◌∙◌, sym, arith}
+use Rattle.std.proofs.Math.Seq.{take-length, drop-length, take-append-add}
 use Rattle.std.proofs.lemmas.List.{length-take, append-nil}
 use Rattle.pl_base.specs.declared.errors.ScriptError.{ScriptError}
+use Rattle.pl_base.specs.declared.choice.Choice.{Choice}
 use Rattle.pl_meaning.specs.declared.halt.Halt.{Halt}
 use Rattle.pl_meaning.specs.Logs.{Trace, Log, grown, rose}
 use Rattle.pl_meaning.specs.Running.{Outcome, Ending}
@@ -18,10 +19,10 @@ grown_nothing : (told : Option (List Trace)) → grown told [] ≡ told
 grown_nothing None = refl
 grown_nothing (Some ts) = ap Some (append-nil ts)
 
--- a run that came to its end
-pub carried : (o : Outcome) (old new : Log) (e : Ending) → seen old o ≡ seen new (record { shown = []; ending = e }) → (o.ending ≡ e) × ShowsAll o old new
+-- a run that came to its end, with no choice left over
+pub carried : (o : Outcome) (old new : Log) (e : List Choice → Ending) → seen old o ≡ seen new (record { shown = []; ending = e (drop (length new.given) new.given) }) → (o.ending ≡ e []) × ShowsAll o old new
 carried o old new e is =
-    (ap (λ (s : Seen). s.ending) is, (sym (ap (λ (s : Seen). s.shown) is ∙ grown_nothing new.shown), sym (ap (λ (s : Seen). s.stops) is), sym (ap (λ (s : Seen). s.sink) is)))
+    (ap (λ (s : Seen). s.ending) is ∙ ap e (drop-length new.given), (sym (ap (λ (s : Seen). s.shown) is ∙ grown_nothing new.shown), sym (ap (λ (s : Seen). s.stops) is), sym (ap (λ (s : Seen). s.sink) is)))
 
 some_is : {A : Type 0} {x y : A} → Some x ≡ Some y → x ≡ y
 some_is e = cc

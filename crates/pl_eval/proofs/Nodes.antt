@@ -1,19 +1,20 @@
 -- What each node of a tree comes to.
 use Rattle.std.specs.Prelude.{nat_lt, ◌||◌, if◌then◌else◌}
-use Rattle.std.proofs.Common.{◌≡◌, ◌≤◌, Bool, false, ℕ, List, length, slice_get, Option, Some, ap, ◌∙◌}
+use Rattle.std.proofs.Common.{◌≡◌, ◌≤◌, Bool, false, ℕ, List, length, slice_get, Option, Some, None, refl, ap, ◌∙◌}
 use Rattle.std.proofs.lemmas.Option.{slice_get_past}
 use Rattle.pl_base.specs.declared.errors.Place.{Place}
 use Rattle.pl_base.specs.declared.errors.ErrKind.TheVariants.{NoValue, ArgCount}
 use Rattle.pl_syntax.specs.declared.stmt.Function.{Function}
 use Rattle.pl_values.specs.declared.value.Value.{Value}
 use Rattle.pl_meaning.specs.Accesses.{fail}
-use Rattle.pl_eval.specs.Pieces.{counted_call, begun}
+use Rattle.pl_eval.specs.Pieces.{counted_call, begun, range_ends}
 use Rattle.pl_syntax.specs.declared.expr.Name.{Name}
 use Rattle.pl_syntax.specs.declared.expr.Un.{Un}
 use Rattle.pl_syntax.specs.declared.expr.Bin.{Bin}
 use Rattle.pl_syntax.specs.declared.expr.Expr.{Expr}
 use Rattle.pl_syntax.specs.declared.expr.ExprKind.{out-ExprKind}
 use Rattle.pl_syntax.specs.declared.expr.ExprKind as expr
+use Rattle.pl_syntax.specs.declared.expr.ExprKind.TheOpen.{ExprKind-F}
 use Rattle.pl_syntax.specs.declared.expr.ExprKind.TheVariants.{outs-Chars, outs-Var, outs-Apply, outs-Brace, outs-Unary, outs-Binary, outs-Range, outs-Rows, outs-Func, outs-End, outs-StateOf}
 use Rattle.pl_syntax.specs.declared.stmt.Stmt.{Stmt}
 use Rattle.pl_syntax.specs.declared.stmt.StmtKind.{out-StmtKind}
@@ -26,7 +27,7 @@ use Rattle.pl_meaning.specs.declared.frame.Frame.{Frame}
 use Rattle.pl_meaning.specs.Running.{attempt, pure}
 use Rattle.pl_operators.specs.Bracketing.{chars_of}
 use Rattle.pl_meaning.specs.Names.{slot_of}
-use Rattle.pl_meaning.specs.Parts.{Level, call_in, entered, frame_of, enter, value_in, value_of, variable_or_call, compound, compound_of, index_or_call, unary, operated, range, bracket, handle, end_word, stmt_in, stmt_at, evaluated, assignment, list_assignment, deletion, compound_stmt, compound_at, branches, looped, columned, cases}
+use Rattle.pl_meaning.specs.Parts.{Level, call_in, entered, frame_of, enter, value_in, value_of, variable_or_call, compound, compound_of, index_or_call, unary, operated, range, bracket, handle, end_word, stmt_in, stmt_at, evaluated, assignment, list_assignment, deletion, compound_stmt, compound_at, branches, looped, columned, cases, divided, ends_at, ends_in}
 
 pub value_var : (program : Resolved) (l : Option Level) (f : Frame) (e : Expr) (n : Name) → e.kind ≡ expr.Var n → value_in program l f e ≡ variable_or_call program l f e.place n (slot_of program f n.text)
 unfolding value_in
@@ -163,6 +164,18 @@ inner_switch program d f s e arms other is = ap (compound_at program d f s.place
 pub inner_try : (program : Resolved) (d : Level) (f : Frame) (s : Stmt) (body : List Stmt) (handler : List Stmt) → s.kind ≡ stmt.Try body handler → compound_stmt program d f s ≡ attempt (d.block f body) (d.block f handler)
 unfolding compound_stmt
 inner_try program d f s body handler is = ap (compound_at program d f s.place) (ap out-StmtKind is ∙ outs-Try body handler)
+
+pub inner_parfor : (program : Resolved) (d : Level) (f : Frame) (s : Stmt) (n : Name) (e : Expr) (most : Option Expr) (body : List Stmt) → s.kind ≡ stmt.Parfor n e most body → compound_stmt program d f s ≡ divided program d f s.place n e most body
+unfolding compound_stmt
+inner_parfor program d f s n e most body is = ap (compound_at program d f s.place) (ap out-StmtKind is ∙ outs-Parfor n e most body)
+
+range_cases : (program : Resolved) (l : Option Level) (f : Frame) (place : Place) (a : Expr) (w : Option Expr) (b : Expr) → ends_at program l f place (ExprKind-F.Range a w b) ≡ range_ends l f place a w b
+range_cases program l f place a None b = refl
+range_cases program l f place a (Some w) b = refl
+
+pub ends_range : (program : Resolved) (l : Option Level) (f : Frame) (e : Expr) (a : Expr) (w : Option Expr) (b : Expr) → e.kind ≡ expr.Range a w b → ends_in program l f e ≡ range_ends l f e.place a w b
+unfolding ends_in
+ends_range program l f e a w b is = ap (ends_at program l f e.place) (ap out-ExprKind is ∙ outs-Range a w b) ∙ range_cases program l f e.place a w b
 
 pub call_found : (program : Resolved) (l : Option Level) (place : Place) (i : ℕ) (nout : ℕ) (vs : List Value) (g : Function) → slice_get program.program.functions i ≡ Some g → call_in program l place i nout vs ≡ counted_call program l (frame_of program i (length vs) nout) place g vs
 unfolding call_in

@@ -17,9 +17,10 @@ mod naming;
 mod operators;
 mod outputs;
 mod running;
+mod sharing;
 mod showing;
 mod statements;
 
 pub use pl_meaning::{Ended, World};
 pub use pl_resolve::Resolved;
-pub use running::run;
+pub use running::{run, run_body};

@@ -12,6 +12,7 @@ use crate::loops::{count, repeat};
 use crate::naming::slot_of;
 use crate::outputs::outputs;
 use crate::running::descend;
+use crate::sharing::divide;
 use crate::showing::show_first;
 use pl_access::{check, erase_part, fail};
 use pl_base::ErrKind;
@@ -172,7 +173,9 @@ fn compound<W: World>(
         StmtKind::Try(body, handler) => attempt(
             alloc, program, levels, frame, memory, world, body, handler,
         ),
-        StmtKind::Parfor(_, _, _, _) => Err(fail(alloc, ErrKind::WrongPlace, s.place)),
+        StmtKind::Parfor(index, range, most, body) => divide(
+            alloc, program, levels, frame, memory, world, s.place, index, range, most, body,
+        ),
         StmtKind::Spmd(_, _) => Err(fail(alloc, ErrKind::WrongPlace, s.place)),
         StmtKind::Eval(_) => Err(fail(alloc, ErrKind::WrongPlace, s.place)),
         StmtKind::Assign(_, _) => Err(fail(alloc, ErrKind::WrongPlace, s.place)),

@@ -3,7 +3,7 @@ use Rattle.std.proofs.Common.{◌≡◌, ◌∙◌, ℕ, Option, Some, None, Lis
 use Rattle.std.proofs.Math.Seq.{take-append_seam}
 use Rattle.std.proofs.lemmas.List.{take-append-drop}
 use Rattle.pl_base.specs.declared.errors.ScriptError.{ScriptError}
-use Rattle.pl_meaning.specs.declared.event.Answer.{Answer}
+use Rattle.pl_base.specs.declared.choice.Choice.{Choice}
 use Rattle.pl_meaning.specs.declared.halt.Halt.{Halt}
 use Rattle.pl_meaning.specs.Logs.{Trace, grown}
 use Rattle.pl_meaning.specs.Running.{Rest, Done}
@@ -14,8 +14,8 @@ front_grown None more = refl
 front_grown (Some ts) more = ap Some (take-append_seam ts more)
 
 -- a run that went no further from here, for want of memory
-pub cut : (all : List Answer) (m : At) (r : Rest) (f : ScriptError → Seen) → view Halt.Memory m.log (from all m r) ≡ viewed Halt.Memory m.log f
-cut all m r f = ap (λ (shown : Option (List Trace)). record { shown = shown; ending = Done []; stops = m.log.stops; rose = false; sink = m.log.sink }) (front_grown m.log.shown _)
+pub cut : (all : List Choice) (m : At) (r : Rest) (f : ScriptError → Seen) → view Halt.Memory m.log (from all m r) ≡ viewed Halt.Memory m.log f
+cut all m r f = ap (λ (shown : Option (List Trace)). record { shown = shown; ending = Done [] []; stops = m.log.stops; rose = false; sink = m.log.sink }) (front_grown m.log.shown _)
 
 pub grown_twice : (told : Option (List Trace)) (a b : List Trace) → grown (grown told a) b ≡ grown told (a ++ b)
 grown_twice None a b = refl

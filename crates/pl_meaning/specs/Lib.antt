@@ -2,8 +2,11 @@ pub mod Logs
 pub mod Running
 pub mod Accesses
 pub mod Known
+pub mod Bounds
 pub mod Names
 pub mod Library
 pub mod Parts
 pub mod Promises
 pub mod Runs
+pub mod Loops
+pub mod Forms

@@ -39,8 +39,11 @@ use Rattle.pl_meaning.specs.declared.frame.Frame.{Frame}
 use Rattle.pl_meaning.specs.declared.frame.Ends.{Ends}
 use Rattle.pl_meaning.specs.declared.frame.Exit.{Exit}
 use Rattle.pl_meaning.specs.declared.frame.Exit.TheVariants.{Onward, Broke, Continued, Returned}
+use Rattle.pl_meaning.specs.declared.event.Answer.{Answer}
+use Rattle.pl_meaning.specs.declared.event.Output.{Output}
 use Rattle.pl_meaning.specs.Logs.{Workspace}
-use Rattle.pl_meaning.specs.Running.{Running, pure, ◌>>=◌, attempt, inside, tell}
+use Rattle.pl_meaning.specs.Running.{Running, pure, raise, ◌>>=◌, attempt, inside, tell, ask}
+use Rattle.pl_meaning.specs.Bounds.{bounds_of}
 use Rattle.pl_meaning.specs.Accesses.{fail, settle, read, check, read_part, read_end, write, write_part, erase_part, take_turn}
 use Rattle.pl_meaning.specs.declared.known.Known.{Known}
 use Rattle.pl_resolve.specs.Functions.{function_names, local_names, number_of as number_of_name}
@@ -54,6 +57,7 @@ pub record Level : Type 0 where
   pub outputs : Frame → ℕ → Expr → Running (List Value)
   pub call : Place → ℕ → ℕ → List Value → Running (List Value)
   pub block : Frame → List Stmt → Running Exit
+  pub ends : Frame → Expr → Running (Value × Value)
 
 abbrev pub enter : {A : Type 0} → Option Level → Place → (Level → Running A) → Running A
 enter None place f = fail TooDeep place
@@ -221,6 +225,35 @@ handed_value place v = fail BadKind place
 abbrev pub handed : Place → List Value → Running ℕ
 handed place [] = fail ArgCount place
 handed place (v ∷ vs) = handed_value place (out-Value v)
+
+-- ## Loops over workers: what needs no program
+
+-- the variables that the statements of a body write a part of, in order
+abbrev pub written_by : StmtKind-F StmtKind Arm Stmt → List Name
+written_by (StmtKind-F.Assign (Indexed n es) e) = n ∷ []
+written_by kind = []
+
+abbrev pub written_in : List Stmt → List Name
+written_in [] = []
+written_in (s ∷ more) = written_by (out-StmtKind (out-Stmt s).kind) ++ written_in more
+
+-- a variable that has a value before a loop has an array
+abbrev pub laid_at : Place → Option Value → Running (Unit {0})
+laid_at place None = pure tt
+laid_at place (Some v) = settle place (array_in v) >>= (λ a. pure tt)
+
+abbrev pub laid : Place → Option ℕ → Running (Unit {0})
+laid place None = pure tt
+laid place (Some slot) = λ k h s. laid_at place (value_at s.env slot) k h s
+
+-- the variables of a loop that is done get their values
+abbrev pub taken : List Output → Running (Unit {0})
+taken [] = pure tt
+taken (o ∷ more) = write o.slot o.value >>= (λ u. taken more)
+
+abbrev pub answered : Answer → Running Exit
+answered (Answer.Raised e) = raise e
+answered (Answer.Looped l) = tell (Print l.text) >>= (λ u. taken l.outputs >>= (λ w. pure Onward))
 
 module _ (program : Resolved) where
   -- a function of the library by its place in the table of names
@@ -508,6 +541,32 @@ module _ (program : Resolved) where
   unfoldable pub columned : Level → Frame → Place → Name → Expr → List Stmt → Running Exit
   columned d f place n e body = d.value f e >>= (λ v. settle place (array_in v) >>= (λ a. counted d f place (slot_of program f n.text) a body))
 
+  -- ## Loops over workers
+
+  -- the two ends of a range; any other range isn't built yet
+  abbrev pub ends_at : Option Level → Frame → Place → ExprKind-F ExprKind Expr → Running (Value × Value)
+  ends_at l f place (ExprKind-F.Range a None b) = enter l place (λ d. d.value f a >>= (λ x. d.value f b >>= (λ y. pure (x, y))))
+  ends_at l f place kind = unbuilt place
+
+  unfoldable pub ends_in : Option Level → Frame → Expr → Running (Value × Value)
+  ends_in l f e = ends_at l f (out-Expr e).place (out-ExprKind (out-Expr e).kind)
+
+  -- each variable that a body writes, and that has a value before the loop, has an array
+  abbrev pub all_laid : Frame → Place → List Name → Running (Unit {0})
+  all_laid f place [] = pure tt
+  all_laid f place (n ∷ more) = laid place (slot_of program f n.text) >>= (λ u. all_laid f place more)
+
+  -- the checks before a loop, a turn for the question, and its answer
+  unfoldable pub shared : Frame → Place → Name → List Stmt → Value → Value → Running Exit
+  shared f place n body x y =
+      settle place (bounds_of x y) >>= (λ b. all_laid f place (written_in body) >>= (λ u. take_turn place >>= (λ w.
+      ask (record { scope = f.scope; place = place; index = n; body = body; first = b.first; count = b.count }) >>= answered)))
+
+  -- a loop without a bound on its workers; one with a bound isn't built yet
+  abbrev pub divided : Level → Frame → Place → Name → Expr → Option Expr → List Stmt → Running Exit
+  divided d f place n e None body = d.ends f e >>= (λ xy. shared f place n body xy.0 xy.1)
+  divided d f place n e (Some most) body = unbuilt place
+
   -- a statement that goes down by a level, below it
   abbrev pub compound_at : Level → Frame → Place → StmtKind-F StmtKind Arm Stmt → Running Exit
   compound_at d f place (StmtKind-F.If arms other) = branches d f place arms other
@@ -515,6 +574,7 @@ module _ (program : Resolved) where
   compound_at d f place (StmtKind-F.For n e body) = columned d f place n e body
   compound_at d f place (StmtKind-F.Switch e arms other) = cases d f place e arms other
   compound_at d f place (StmtKind-F.Try body handler) = attempt (d.block f body) (d.block f handler)
+  compound_at d f place (StmtKind-F.Parfor n e most body) = divided d f place n e most body
   compound_at d f place kind = unbuilt place
 
   unfoldable pub compound_stmt : Level → Frame → Stmt → Running Exit
@@ -548,7 +608,7 @@ module _ (program : Resolved) where
   -- ## Levels
 
   abbrev pub level_at : Option Level → Level
-  level_at l = record { value = value_in l; outputs = outputs_in l; call = call_in l; block = block_in l }
+  level_at l = record { value = value_in l; outputs = outputs_in l; call = call_in l; block = block_in l; ends = ends_in l }
 
   -- what parts do below so many levels
   unfoldable pub below : ℕ → Option Level

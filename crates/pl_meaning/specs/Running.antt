@@ -1,25 +1,28 @@
 -- How parts of a run are put together. A part is given what the run comes to behind it, with its value or
 -- with its error, and says what the run comes to in front of it. So a part is read from left to right, and
 -- nothing has to be said of parts that are not reached.
-use Rattle.std.specs.Prelude.{ℕ, List, [], ◌∷◌, ◌++◌, Bool, true, false, if◌then◌else◌}
+use Rattle.std.specs.Prelude.{ℕ, List, [], ◌∷◌, ◌++◌, Bool, true, false, if◌then◌else◌, Option, Some, None}
 use Rattle.pl_base.specs.declared.errors.ErrKind.{ErrKind}
 use Rattle.pl_base.specs.declared.errors.ErrKind.TheVariants.{Spent, TooDeep}
 use Rattle.pl_base.specs.declared.errors.ScriptError.{ScriptError}
 use Rattle.pl_meaning.specs.declared.event.Event.{Event}
-use Rattle.pl_meaning.specs.declared.event.Question.{Question}
+use Rattle.pl_base.specs.declared.choice.Choice.{Choice}
 use Rattle.pl_meaning.specs.declared.event.Answer.{Answer}
-use Rattle.pl_meaning.specs.Logs.{Workspace, Trace, Asked, shows}
+use Rattle.pl_meaning.specs.Logs.{Workspace, Trace, Question, Rules, shows}
 
--- where a run stands: its workspace, the turns that are left, and the answers that it hasn't used
+-- where a run stands: its workspace, the turns that are left, the choices that it hasn't used, and the rules by which a
+-- choice answers a question
 pub record State : Type 0 where
   pub env : Workspace
   pub turns : ℕ
-  pub answers : List Answer
+  pub choices : List Choice
+  pub rules : Rules
 
--- how a run ends: done, by an error, or at a question for which no answer is left
+-- how a run ends: done or by an error, with the choices that are left over; or at a question that the next choice doesn't
+-- answer
 pub data Ending : Type 0 where
-  Done : Workspace → Ending
-  Raised : ScriptError → Ending
+  Done : Workspace → List Choice → Ending
+  Raised : ScriptError → List Choice → Ending
   Asks : Question → Workspace → Ending
 
 -- what a run shows, and how it ends
@@ -70,10 +73,17 @@ inside env p = λ k h s. p (λ a t. k a (record t { env = s.env })) (λ e t. h e
 unfoldable pub tell : Event → Running (Unit {0})
 tell e = λ k h s. before (shows e) (k tt s)
 
--- a question: the next answer, or the end of what is known
-abbrev pub answer_of : Question → List Answer → Running Answer
-answer_of q [] = λ k h s. record { shown = Asked q s.env ∷ []; ending = Asks q s.env }
-answer_of q (a ∷ more) = λ k h s. before (Asked q s.env ∷ []) (k a (record s { answers = more }))
+-- a question: the answer under the next choice, or the end of what is known
+abbrev pub waits : {A : Type 0} → Question → Running A
+waits q = λ k h s. record { shown = []; ending = Asks q s.env }
+
+abbrev pub answered_by : Question → List Choice → Option Answer → Running Answer
+answered_by q more None = waits q
+answered_by q more (Some a) = λ k h s. k a (record s { choices = more })
+
+abbrev pub answer_of : Question → List Choice → Running Answer
+answer_of q [] = waits q
+answer_of q (c ∷ more) = λ k h s. answered_by q more (s.rules q s.env c) k h s
 
 unfoldable pub ask : Question → Running Answer
-ask q = λ k h s. answer_of q s.answers k h s
+ask q = λ k h s. answer_of q s.choices k h s

@@ -1,6 +1,9 @@
 //! What a run tells, what it asks, and what it is answered.
 
-use pl_base::{ScriptError, Text};
+use pl_base::{Place, ScriptError, Seq, Text};
+use pl_syntax::{Name, Stmt};
+use pl_values::Value;
+use sqlite_items::Items;
 
 /// An event that a run tells its world, in the order in which it comes.
 #[derive(Debug, Drop)]
@@ -9,12 +12,23 @@ pub enum Event {
     Print(Text),
 }
 
-/// A question of the client to its world.
-#[derive(Debug, Drop)]
-pub enum Question {
-    /// A loop over workers: its number in the text, the first value of its index, the count of its
-    /// iterations, and the most workers that it may have.
-    Loop(u32, i64, u32, u32),
+/// A question of a run to its world: a loop over workers that is to be run, with the scope in which it stands, its
+/// place, its index, its body, the first value of its index and the count of its iterations.
+#[derive(Clone, Copy)]
+pub struct Loop<'p> {
+    pub scope: usize,
+    pub place: Place,
+    pub index: &'p Name,
+    pub body: &'p Items<Stmt>,
+    pub first: i64,
+    pub count: u32,
+}
+
+/// The values of a loop's index: the first, and how many.
+#[derive(Clone, Copy, Debug)]
+pub struct Bounds {
+    pub first: i64,
+    pub count: u32,
 }
 
 /// An answer to a question.
@@ -22,4 +36,21 @@ pub enum Question {
 pub enum Answer {
     /// The loop raised this error.
     Raised(ScriptError),
+    /// The loop is done.
+    Looped(Looped),
+}
+
+/// What a loop that is done comes to: the text that its iterations printed, in their order, and the variables that
+/// they wrote.
+#[derive(Debug, Drop)]
+pub struct Looped {
+    pub text: Text,
+    pub outputs: Seq<Output>,
+}
+
+/// A variable that a loop wrote, and its value behind the loop.
+#[derive(Debug, Drop)]
+pub struct Output {
+    pub slot: u32,
+    pub value: Value,
 }

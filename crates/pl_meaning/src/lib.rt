@@ -6,7 +6,7 @@
 //! law about runs is a law about it. It is by cases on the tree, and total.
 //!
 //! What is promised of a part that is carried out, case by case: where it goes on, the definition goes on with
-//! the same value from where the workspace, the turns, the answers and the events then stand; where it
+//! the same value from where the workspace, the turns, the choices and the events then stand; where it
 //! raises an error, the definition goes on behind that error from there; where the world stopped it, the
 //! events told are the first of the definition's, and so they are where memory was wanting.
 #![tactic(auto)]
@@ -20,7 +20,7 @@ mod memory;
 mod world;
 
 pub use ended::Ended;
-pub use event::{Answer, Event, Question};
+pub use event::{Answer, Bounds, Event, Loop, Looped, Output};
 pub use frame::{Ends, Exit, Frame};
 pub use halt::{Halt, Stop};
 pub use known::{Known, Own};

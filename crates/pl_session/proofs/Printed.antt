@@ -3,7 +3,7 @@ use Rattle.std.proofs.Common.{◌≡◌, ◌∙◌, ℕ, zero, suc, ◌+◌, ◌
 use Rattle.std.specs.Prelude.{option_map}
 use Rattle.std.specs.Io.KnownBytes.{Appends}
 use Rattle.pl_io.specs.Told.{AppendsPrefix}
-use Rattle.pl_meaning.specs.Logs.{Trace, Byte, Asked, grown}
+use Rattle.pl_meaning.specs.Logs.{Trace, Byte, grown}
 use Rattle.pl_session.specs.Told.{printed, told}
 
 pub printed_bytes : (bs : List ℕ) → printed (map Byte bs) ≡ bs
@@ -30,7 +30,6 @@ pub first_bytes : (n : ℕ) (ts : List Trace) → (k : ℕ) × (k ≤ length (pr
 first_bytes zero ts = (0, omega arith, refl)
 first_bytes (suc n) [] = (0, omega arith, refl)
 first_bytes (suc n) (Byte b ∷ ts) = let ih = first_bytes n ts in (suc ih.0, omega (arith, ih.1), ap (λ v. b ∷ v) ih.2)
-first_bytes (suc n) (Asked q env ∷ ts) = first_bytes n ts
 
 pub part_told : (old new : Option (List ℕ)) (ts : List Trace) (n : ℕ) → told new ≡ grown (told old) (take n ts) → AppendsPrefix old new (printed ts)
 part_told old new ts n e =

@@ -1,6 +1,7 @@
 -- How a call of `top` ends.
 use Rattle.std.specs.Prelude.{◌≡◌, ℕ, ◌<◌, ◌≤◌, ◌⊎◌, Option, Some, None, List, [], length}
 use Rattle.std.specs.Io.KnownBytes.{Appends}
+use Rattle.pl_base.specs.declared.choice.Choice.{Choice}
 use Rattle.pl_base.specs.declared.errors.ScriptError.{ScriptError}
 use Rattle.pl_errors.specs.Errors.{error_line}
 use Rattle.pl_io.specs.Told.{AppendsPrefix}
@@ -14,13 +15,13 @@ use Rattle.pl_session.specs.Told.{printed}
 use Rattle.pl_session.specs.Printing.{run_of}
 use Rattle.pl_session.specs.Words.{Command}
 
--- the script can be run, and this is its run
-abbrev pub Runs : List ℕ → ℕ → Outcome → Type 0
-Runs script turns o = (length script ≤ 1000000) × ((r : Resolved) × Ready script r × (o ≡ run_of r turns))
+-- the script can be run, and this is its run under these choices
+abbrev pub Runs : List ℕ → ℕ → List Choice → Outcome → Type 0
+Runs script turns choices o = (length script ≤ 1000000) × ((r : Resolved) × Ready script r × (o ≡ run_of r turns choices))
 
--- its run ends behind its last statement
+-- its run ends behind its last statement, and no choice is left over
 abbrev pub IsDone : Outcome → Type 0
-IsDone o = (env : Workspace) × (o.ending ≡ Done env)
+IsDone o = (env : Workspace) × (o.ending ≡ Done env [])
 
 -- the script isn't run: it is too long, or is refused
 abbrev pub IsRefused : List ℕ → ℕ → List ℕ → Type 0
@@ -29,37 +30,37 @@ IsRefused script status line =
     ((length script ≤ 1000000) × Refuses script status line)
 
 -- the script ended, and the sink grew by all that it prints
-abbrev pub Ends : List ℕ → ℕ → Option (List ℕ) → Option (List ℕ) → Type 0
-Ends script turns old new = (o : Outcome) × Runs script turns o × IsDone o × Appends old new (printed o.shown)
+abbrev pub Ends : List ℕ → ℕ → List Choice → Option (List ℕ) → Option (List ℕ) → Type 0
+Ends script turns choices old new = (o : Outcome) × Runs script turns choices o × IsDone o × Appends old new (printed o.shown)
 
 -- the script raised an error: the sink grew by all that it prints, and the notes by the error's line
-abbrev pub Raises : List ℕ → ℕ → Option (List ℕ) → Option (List ℕ) → Option (List ℕ) → Option (List ℕ) → Type 0
-Raises script turns old new notes_old notes_new =
-    (o : Outcome) × Runs script turns o × ((e : ScriptError) × (o.ending ≡ Raised e) × Appends notes_old notes_new (error_line e)) × Appends old new (printed o.shown)
+abbrev pub Raises : List ℕ → ℕ → List Choice → Option (List ℕ) → Option (List ℕ) → Option (List ℕ) → Option (List ℕ) → Type 0
+Raises script turns choices old new notes_old notes_new =
+    (o : Outcome) × Runs script turns choices o × ((e : ScriptError) × (o.ending ≡ Raised e []) × Appends notes_old notes_new (error_line e)) × Appends old new (printed o.shown)
 
 -- the sink grew by the first bytes of what the script prints, or not at all
-abbrev pub PrintsPart : List ℕ → ℕ → Option (List ℕ) → Option (List ℕ) → Type 0
-PrintsPart script turns old new = (old ≡ new) ⊎ ((o : Outcome) × Runs script turns o × AppendsPrefix old new (printed o.shown))
+abbrev pub PrintsPart : List ℕ → ℕ → List Choice → Option (List ℕ) → Option (List ℕ) → Type 0
+PrintsPart script turns choices old new = (old ≡ new) ⊎ ((o : Outcome) × Runs script turns choices o × AppendsPrefix old new (printed o.shown))
 
 -- the sink grew by the line that refuses the script
 abbrev pub WritesRefusal : List ℕ → ℕ → Option (List ℕ) → Option (List ℕ) → Type 0
 WritesRefusal script status old new = (line : List ℕ) × IsRefused script status line × Appends old new line
 
 -- a line of the notes of a script: why it isn't run, or the error that it raised
-abbrev pub IsLine : List ℕ → ℕ → List ℕ → Type 0
-IsLine script turns line =
+abbrev pub IsLine : List ℕ → ℕ → List Choice → List ℕ → Type 0
+IsLine script turns choices line =
     ((status : ℕ) × IsRefused script status line) ⊎
-    ((o : Outcome) × Runs script turns o × ((e : ScriptError) × (o.ending ≡ Raised e) × (line ≡ error_line e)))
+    ((o : Outcome) × Runs script turns choices o × ((e : ScriptError) × (o.ending ≡ Raised e []) × (line ≡ error_line e)))
 
 -- the notes grew by the first bytes of such a line, or not at all
-abbrev pub NotesPart : List ℕ → ℕ → Option (List ℕ) → Option (List ℕ) → Type 0
-NotesPart script turns old new = (old ≡ new) ⊎ ((line : List ℕ) × IsLine script turns line × AppendsPrefix old new line)
+abbrev pub NotesPart : List ℕ → ℕ → List Choice → Option (List ℕ) → Option (List ℕ) → Type 0
+NotesPart script turns choices old new = (old ≡ new) ⊎ ((line : List ℕ) × IsLine script turns choices line × AppendsPrefix old new line)
 
 -- or by the first bytes of the line of a file of this name that can't be read
-abbrev pub LinePart : List ℕ → List ℕ → ℕ → Option (List ℕ) → Option (List ℕ) → Type 0
-LinePart name script turns old new = NotesPart script turns old new ⊎ AppendsPrefix old new (cannot_read_line name)
+abbrev pub LinePart : List ℕ → List ℕ → ℕ → List Choice → Option (List ℕ) → Option (List ℕ) → Type 0
+LinePart name script turns choices old new = NotesPart script turns choices old new ⊎ AppendsPrefix old new (cannot_read_line name)
 
--- the choices of a run that asks no question: none, under the command's limits
-abbrev pub journal_of : Option Command → Journal
-journal_of None = record { version = 1; workers = 4; turns = 100000000; entries = [] }
-journal_of (Some c) = record { version = 1; workers = c.workers; turns = c.turns; entries = [] }
+-- choices under the command's limits
+abbrev pub journal_of : Option Command → List Choice → Journal
+journal_of None choices = record { version = 1; workers = 4; turns = 100000000; entries = choices }
+journal_of (Some c) choices = record { version = 1; workers = c.workers; turns = c.turns; entries = choices }

@@ -1,21 +1,35 @@
-//! The world of a script that runs on the client: what it prints goes to a sink as it comes.
+//! The world of a script that runs on the client: what it prints goes to a sink as it comes, and its loops over workers
+//! are carried out where they are asked for. The choices under which they are answered are kept.
 
-use pl_base::Or;
+use pl_base::{Choice, Or, Seq};
 use pl_io::{Sink, WriteFault, write_all};
-use pl_meaning::{Answer, Event, Question, Stop, World};
+use pl_loop::run_loop;
+use pl_meaning::{Answer, Event, Loop, Stop, World};
+use pl_resolve::Resolved;
 use pl_values::Env;
+use std::alloc::Global;
 
-/// A world that writes to a sink. It stops where a write fails, and gives no answer.
+/// The most levels of a run.
+pub(crate) const DEPTH: u32 = 1_000;
+
+/// A world that writes to a sink, and answers a program's loops, whose activities have so many turns each. It stops
+/// where a write fails. The list of its choices is lent to it: a struct that owned memory would keep the sink that is
+/// lent to it, and nobody would learn what was written there.
 #[derive(Drop)]
 pub(crate) struct Client<'k, K> {
+    pub(crate) alloc: Global,
+    pub(crate) program: &'k Resolved,
+    pub(crate) turns: u64,
+    pub(crate) entries: &'k mut Seq<Choice>,
     pub(crate) out: &'k mut K,
 }
 
 impl<K: Sink> World for Client<'_, K> {
-    ghost use Rattle.std.specs.Prelude.{[], Some};
+    ghost use Rattle.std.specs.Prelude.{Some};
+    ghost use Rattle.pl_meaning.specs.Loops.{loop_rules};
     ghost use Rattle.pl_session.specs.Told.{told};
 
-    ghost log = { λ c. record { given = []; shown = told (K.written c.out.now); stops = K.faults c.out.now; sink = Some c.out.ghost_name } };
+    ghost log = { λ c. record { given = c.entries.now; shown = told (K.written c.out.now); stops = K.faults c.out.now; sink = Some c.out.ghost_name; rules = loop_rules c.program.now c.turns 1000 } };
 
     fn event(&mut self, event: Event) -> Result<(), Or<Stop>> {
         match event {
@@ -26,7 +40,9 @@ impl<K: Sink> World for Client<'_, K> {
         }
     }
 
-    fn ask(&mut self, _env: &Env<'_>, _question: Question) -> Result<Answer, Or<Stop>> {
-        Err(Or::Memory)
+    fn ask(&mut self, env: &Env<'_>, question: Loop<'_>) -> Result<Answer, Or<Stop>> {
+        let done = run_loop(self.alloc, self.program, question, env, self.turns, DEPTH)?;
+        self.entries.push(done.choice)?;
+        Ok(done.answer)
     }
 }

@@ -1,9 +1,8 @@
 //! What a call of `top` answers.
 
-ghost use Rattle.std.specs.Prelude.{◌≡◌, []};
+ghost use Rattle.std.specs.Prelude.{◌≡◌};
 
 use pl_base::{Choice, Seq};
-use std::alloc::Global;
 
 /// The exit status: 0 the script ended, 1 it raised an error, 2 usage, 3 a read fault, 4 a write fault, 5 no
 /// program, 7 an unknown name, 9 want of memory.
@@ -43,10 +42,10 @@ impl Limits {
     };
 }
 
-/// An end with no choices.
-pub(crate) fn end_with(alloc: Global, status: u8, limits: Limits, script: Seq<u8>) -> Ended
+/// An end, with the choices that were made.
+pub(crate) fn end_with(status: u8, limits: Limits, script: Seq<u8>, entries: Seq<Choice>) -> Ended
     ensures status { result.status.0 ≡ status }
-    ensures journal { result.journal ≡ record { version = 1; workers = limits.workers; turns = limits.turns; entries = [] } }
+    ensures journal { result.journal ≡ record { version = 1; workers = limits.workers; turns = limits.turns; entries = entries } }
     ensures script { result.script ≡ script }
 {
     Ended {
@@ -55,7 +54,7 @@ pub(crate) fn end_with(alloc: Global, status: u8, limits: Limits, script: Seq<u8
             version: 1,
             workers: limits.workers,
             turns: limits.turns,
-            entries: Seq::empty(alloc),
+            entries,
         },
         script,
     }

@@ -7,7 +7,7 @@ ghost use Rattle.pl_io.specs.Told.{AppendsPrefix};
 ghost use Rattle.pl_session.specs.Lines.{cannot_read_line};
 
 use crate::ended::{Ended, Limits, end_with};
-use pl_base::Seq;
+use pl_base::{Choice, Seq};
 use pl_io::{Sink, WriteFault, write_all};
 use std::alloc::Global;
 
@@ -15,10 +15,10 @@ const CANNOT_READ: &[u8] = b"parlab: cannot read ";
 
 /// Ends with a status and the line that goes with it, or with a write fault.
 pub(crate) fn close<N: Sink>(
-    alloc: Global,
     status: u8,
     limits: Limits,
     script: Seq<u8>,
+    entries: Seq<Choice>,
     line: &[u8],
     notes: &mut N,
 ) -> Ended
@@ -29,11 +29,11 @@ pub(crate) fn close<N: Sink>(
     ensures cause { result.status.0 ≡ 4 → Rose (N.faults notes.old) (N.faults notes.new) }
     ensures grew { N.faults notes.old < N.faults notes.new → result.status.0 ≡ 4 }
     ensures script { result.script ≡ script }
-    ensures journal { result.journal ≡ record { version = 1; workers = limits.workers; turns = limits.turns; entries = [] } }
+    ensures journal { result.journal ≡ record { version = 1; workers = limits.workers; turns = limits.turns; entries = entries } }
 {
     match write_all(notes, line) {
-        Ok(()) => end_with(alloc, status, limits, script),
-        Err(WriteFault) => end_with(alloc, 4, limits, script),
+        Ok(()) => end_with(status, limits, script, entries),
+        Err(WriteFault) => end_with(4, limits, script, entries),
     }
 }
 
@@ -65,7 +65,7 @@ pub(crate) fn cannot_read<N: Sink>(
     ensures journal { result.journal ≡ record { version = 1; workers = limits.workers; turns = limits.turns; entries = [] } }
 {
     match write_cannot_read(name, notes) {
-        Ok(()) => end_with(alloc, 3, limits, Seq::empty(alloc)),
-        Err(WriteFault) => end_with(alloc, 4, limits, Seq::empty(alloc)),
+        Ok(()) => end_with(3, limits, Seq::empty(alloc), Seq::empty(alloc)),
+        Err(WriteFault) => end_with(4, limits, Seq::empty(alloc), Seq::empty(alloc)),
     }
 }

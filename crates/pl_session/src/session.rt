@@ -36,14 +36,14 @@ fn run_file<F: Files, K: Sink, N: Sink>(
     notes: &mut N,
 ) -> Ended
     ensures statuses { (result.status.0 ≡ 0) ⊎ (result.status.0 ≡ 1) ⊎ (result.status.0 ≡ 3) ⊎ (result.status.0 ≡ 4) ⊎ (result.status.0 ≡ 5) ⊎ (result.status.0 ≡ 7) ⊎ (result.status.0 ≡ 9) }
-    ensures done { result.status.0 ≡ 0 → Ends result.script limits.turns (K.written out.old) (K.written out.new) }
-    ensures raised { result.status.0 ≡ 1 → Raises result.script limits.turns (K.written out.old) (K.written out.new) (N.written notes.old) (N.written notes.new) }
+    ensures done { result.status.0 ≡ 0 → Ends result.script limits.turns result.journal.entries (K.written out.old) (K.written out.new) }
+    ensures raised { result.status.0 ≡ 1 → Raises result.script limits.turns result.journal.entries (K.written out.old) (K.written out.new) (N.written notes.old) (N.written notes.new) }
     ensures quiet { result.status.0 ≡ 0 → notes.new ≡ notes.old }
     ensures refused { (result.status.0 ≡ 5) ⊎ (result.status.0 ≡ 7) → WritesRefusal result.script result.status.0 (N.written notes.old) (N.written notes.new) }
     ensures unread { result.status.0 ≡ 3 → Appends (N.written notes.old) (N.written notes.new) (cannot_read_line name.now) }
     ensures silent { (result.status.0 ≡ 3) ⊎ (result.status.0 ≡ 5) ⊎ (result.status.0 ≡ 7) → out.new ≡ out.old }
-    ensures part { (result.status.0 ≡ 4) ⊎ (result.status.0 ≡ 9) → PrintsPart result.script limits.turns (K.written out.old) (K.written out.new) }
-    ensures notes_part { (result.status.0 ≡ 4) ⊎ (result.status.0 ≡ 9) → LinePart name.now result.script limits.turns (N.written notes.old) (N.written notes.new) }
+    ensures part { (result.status.0 ≡ 4) ⊎ (result.status.0 ≡ 9) → PrintsPart result.script limits.turns result.journal.entries (K.written out.old) (K.written out.new) }
+    ensures notes_part { (result.status.0 ≡ 4) ⊎ (result.status.0 ≡ 9) → LinePart name.now result.script limits.turns result.journal.entries (N.written notes.old) (N.written notes.new) }
     ensures read { result.status.0 ≡ 3 → Rose (F.faults files.old) (F.faults files.new) }
     ensures read_grew { F.faults files.old < F.faults files.new → (result.status.0 ≡ 3) ⊎ (result.status.0 ≡ 4) }
     ensures cause { result.status.0 ≡ 4 → Rose (K.faults out.old) (K.faults out.new) ⊎ Rose (N.faults notes.old) (N.faults notes.new) }
@@ -53,13 +53,21 @@ fn run_file<F: Files, K: Sink, N: Sink>(
     ensures script_part { IfSome (F.bytes files.old name.now) (λ bytes. (result.script ≡ []) ⊎ (result.script ≡ take 1000001 bytes)) }
     ensures no_script { result.status.0 ≡ 3 → result.script ≡ [] }
     ensures told { Stays (F.bytes files.old) (F.bytes files.new) }
-    ensures journal { result.journal ≡ record { version = 1; workers = limits.workers; turns = limits.turns; entries = [] } }
+    ensures journal { result.journal ≡ record { version = 1; workers = limits.workers; turns = limits.turns; entries = result.journal.entries } }
+    ensures no_choice { (result.status.0 ≡ 3) ⊎ (result.status.0 ≡ 5) ⊎ (result.status.0 ≡ 7) → result.journal.entries ≡ [] }
 {
     match read_all(alloc, files, name, MOST_BYTES) {
         Ok(source) => run_source(alloc, source, limits, out, notes),
-        Err(Or::Memory) => end_with(alloc, 9, limits, Seq::empty(alloc)),
+        Err(Or::Memory) => end_with(9, limits, Seq::empty(alloc), Seq::empty(alloc)),
         Err(Or::Is(ReadFault::Failed)) => cannot_read(alloc, name, limits, notes),
-        Err(Or::Is(ReadFault::TooLong(script))) => close(alloc, 5, limits, script, TOO_LONG, notes),
+        Err(Or::Is(ReadFault::TooLong(script))) => close(
+            5,
+            limits,
+            script,
+            Seq::empty(alloc),
+            TOO_LONG,
+            notes,
+        ),
     }
 }
 
@@ -81,11 +89,11 @@ pub fn top<F: Files, K: Sink, N: Sink, G: Gate, R: Threads + Wait + Sync>(
     ensures statuses { (result.status.0 ≡ 0) ⊎ (result.status.0 ≡ 1) ⊎ (result.status.0 ≡ 2) ⊎ (result.status.0 ≡ 3) ⊎ (result.status.0 ≡ 4) ⊎ (result.status.0 ≡ 5) ⊎ (result.status.0 ≡ 7) ⊎ (result.status.0 ≡ 9) }
 
     // Status 0: the script's run ends, and what was written is what it prints.
-    ensures done { result.status.0 ≡ 0 → Ends result.script result.journal.turns (K.written out.old) (K.written out.new) }
+    ensures done { result.status.0 ≡ 0 → Ends result.script result.journal.turns result.journal.entries (K.written out.old) (K.written out.new) }
     ensures quiet { result.status.0 ≡ 0 → notes.new ≡ notes.old }
 
     // Status 1: the script's run raises an error. What it prints before was written, and the error's line to the notes.
-    ensures raised { result.status.0 ≡ 1 → Raises result.script result.journal.turns (K.written out.old) (K.written out.new) (N.written notes.old) (N.written notes.new) }
+    ensures raised { result.status.0 ≡ 1 → Raises result.script result.journal.turns result.journal.entries (K.written out.old) (K.written out.new) (N.written notes.old) (N.written notes.new) }
 
     // Status 2: exactly where the words aren't `run FILE` with its options; no file and no output is touched.
     ensures usage { command_in words.now ≡ None → (result.status.0 ≡ 2) ⊎ (result.status.0 ≡ 4) }
@@ -108,9 +116,9 @@ pub fn top<F: Files, K: Sink, N: Sink, G: Gate, R: Threads + Wait + Sync>(
     ensures silent { (result.status.0 ≡ 2) ⊎ (result.status.0 ≡ 3) ⊎ (result.status.0 ≡ 5) ⊎ (result.status.0 ≡ 7) → out.new ≡ out.old }
 
     // Statuses 4 and 9: what was written is the beginning of what would have been.
-    ensures part { (result.status.0 ≡ 4) ⊎ (result.status.0 ≡ 9) → PrintsPart result.script result.journal.turns (K.written out.old) (K.written out.new) }
+    ensures part { (result.status.0 ≡ 4) ⊎ (result.status.0 ≡ 9) → PrintsPart result.script result.journal.turns result.journal.entries (K.written out.old) (K.written out.new) }
     ensures usage_part { command_in words.now ≡ None → result.status.0 ≡ 4 → AppendsPrefix (N.written notes.old) (N.written notes.new) usage_line }
-    ensures notes_part { (command : Order) → command_in words.now ≡ Some command → (result.status.0 ≡ 4) ⊎ (result.status.0 ≡ 9) → LinePart command.name result.script result.journal.turns (N.written notes.old) (N.written notes.new) }
+    ensures notes_part { (command : Order) → command_in words.now ≡ Some command → (result.status.0 ≡ 4) ⊎ (result.status.0 ≡ 9) → LinePart command.name result.script result.journal.turns result.journal.entries (N.written notes.old) (N.written notes.new) }
 
     // The script is the file's bytes, of too long a file the first 1,000,001, and empty where none was read.
     ensures script { (command : Order) (bytes : List ℕ) → command_in words.now ≡ Some command → F.bytes files.old command.name ≡ Some bytes → (result.status.0 ≡ 0) ⊎ (result.status.0 ≡ 1) ⊎ (result.status.0 ≡ 5) ⊎ (result.status.0 ≡ 7) → result.script ≡ take 1000001 bytes }
@@ -118,8 +126,9 @@ pub fn top<F: Files, K: Sink, N: Sink, G: Gate, R: Threads + Wait + Sync>(
     ensures no_script { (result.status.0 ≡ 2) ⊎ (result.status.0 ≡ 3) → result.script ≡ [] }
     ensures told { Stays (F.bytes files.old) (F.bytes files.new) }
 
-    // No choice is kept: what is built asks no question. The limits are the command's, or the default ones.
-    ensures journal { result.journal ≡ journal_of (command_in words.now) }
+    // The journal has the choices of the run, and the command's limits, or the default ones; what isn't run made no choice.
+    ensures journal { result.journal ≡ journal_of (command_in words.now) result.journal.entries }
+    ensures no_choice { (result.status.0 ≡ 2) ⊎ (result.status.0 ≡ 3) ⊎ (result.status.0 ≡ 5) ⊎ (result.status.0 ≡ 7) → result.journal.entries ≡ [] }
 {
     match command_of(words) {
         Some(command) => {
@@ -130,6 +139,13 @@ pub fn top<F: Files, K: Sink, N: Sink, G: Gate, R: Threads + Wait + Sync>(
             } = command;
             run_file(alloc, name, Limits { workers, turns }, files, out, notes)
         }
-        None => close(alloc, 2, Limits::DEFAULT, Seq::empty(alloc), USAGE, notes),
+        None => close(
+            2,
+            Limits::DEFAULT,
+            Seq::empty(alloc),
+            Seq::empty(alloc),
+            USAGE,
+            notes,
+        ),
     }
 }

@@ -47,4 +47,4 @@ earlier (Some p) (Some q) = if nat_lt q.at p.at then Some q else Some p
 
 -- the first use of what isn't carried out: a node, or the name of a function
 abbrev pub unbuilt_of : Resolved → Option Place
-unbuilt_of r = earlier (first_of (of_program r.program)) (name_of r)
+unbuilt_of r = earlier (first_of (of_program r)) (name_of r)

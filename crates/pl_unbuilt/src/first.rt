@@ -24,7 +24,7 @@ fn earlier(a: Option<Place>, b: Option<Place>) -> Option<Place>
 pub fn unbuilt(alloc: Global, resolved: &Resolved) -> Result<Option<Place>, NoMemory>
     ensures { IfOk result (λ p. p ≡ unbuilt_of resolved.now) }
 {
-    let nodes = nodes(alloc, &resolved.program)?;
+    let nodes = nodes(alloc, resolved)?;
     let node = nodes.first().copied();
     Ok(earlier(node, name(alloc, resolved)?))
 }

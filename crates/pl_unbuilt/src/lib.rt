@@ -1,9 +1,10 @@
-//! What a program uses that nothing carries out yet: loops over workers, blocks, elements in braces, the states of
-//! futures, and the functions of the parallel language. A program that uses one is refused before it runs, at
-//! the first such place.
+//! What a program uses that nothing carries out yet: most loops over workers, blocks, elements in braces, the states
+//! of futures, and the functions of the parallel language. A program that uses one is refused before it runs, at
+//! the first such place. Of the loops over workers those are carried out whose body has the one form that is built.
 #![tactic(auto)]
 
 mod first;
+mod forms;
 mod names;
 mod nodes;
 

@@ -1,10 +1,13 @@
 //! Nodes that nothing carries out yet.
 
 ghost use Rattle.std.specs.Prelude.{◌≡◌, ◌++◌, OnOk, IfOk};
-ghost use Rattle.pl_unbuilt.specs.Nodes.{of_expr, of_exprs, of_target, of_targets, of_arms, of_stmt, of_block, of_functions, of_program};
+ghost use Rattle.pl_unbuilt.specs.Nodes.{of_expr, of_exprs, of_target, of_targets, of_workers, is_between as is_between_two, of_arms, of_stmt, of_block, frame_of, of_functions, of_program};
 
+use crate::forms::is_form;
 use pl_base::{NoMemory, Place};
-use pl_syntax::{Arm, Expr, ExprKind, Function, Program, Stmt, StmtKind, Target};
+use pl_meaning::Frame;
+use pl_resolve::Resolved;
+use pl_syntax::{Arm, Expr, ExprKind, Stmt, StmtKind, Target};
 use sqlite_items::Items;
 use std::alloc::Global;
 
@@ -97,10 +100,46 @@ fn add_targets(out: &mut Vec<Place>, list: &Items<Option<Target>>) -> Result<(),
     Ok(())
 }
 
+/// Whether a range goes from one number to another in steps of 1.
+fn is_between(range: &Expr) -> bool
+    ensures { result ≡ is_between_two range.now }
+{
+    match &range.kind {
+        ExprKind::Range(_, step, _) => step.is_none(),
+        ExprKind::Number(_) | ExprKind::Chars(_) | ExprKind::End | ExprKind::Colon => false,
+        ExprKind::Var(_) | ExprKind::Func(_) | ExprKind::Apply(_, _) => false,
+        ExprKind::Brace(_, _, _) | ExprKind::StateOf(_) | ExprKind::Rows(_) => false,
+        ExprKind::Unary(_, _) | ExprKind::Binary(_, _, _) => false,
+    }
+}
+
+/// Adds the nodes of a loop over workers, whose body is of the form that is built or isn't.
+fn add_workers(
+    out: &mut Vec<Place>,
+    range: &Expr,
+    most: &Option<Expr>,
+    fits: bool,
+    place: Place,
+) -> Result<(), NoMemory>
+    ensures { OnOk result (out.new.items ≡ out.old.items ++ of_workers range.now most.now fits place) }
+{
+    if most.is_none() && is_between(range) && fits {
+        add_expr(out, range)?;
+    } else {
+        out.push(place)?;
+    }
+    Ok(())
+}
+
 /// Adds the nodes of a statement.
 #[cycle(blocks)]
-fn add_stmt(out: &mut Vec<Place>, s: &Stmt) -> Result<(), NoMemory>
-    ensures { OnOk result (out.new.items ≡ out.old.items ++ of_stmt s.now) }
+fn add_stmt(
+    out: &mut Vec<Place>,
+    program: &Resolved,
+    frame: Frame,
+    s: &Stmt,
+) -> Result<(), NoMemory>
+    ensures { OnOk result (out.new.items ≡ out.old.items ++ of_stmt program.now frame s.now) }
 {
     match &s.kind {
         StmtKind::Eval(e) => add_expr(out, e)?,
@@ -114,22 +153,30 @@ fn add_stmt(out: &mut Vec<Place>, s: &Stmt) -> Result<(), NoMemory>
         }
         StmtKind::Delete(_, list) => add_exprs(out, list)?,
         StmtKind::If(arms, last) => {
-            add_arms(out, arms)?;
-            add_block(out, last)?;
+            add_arms(out, program, frame, arms)?;
+            add_block(out, program, frame, last)?;
         }
-        StmtKind::While(test, body) | StmtKind::For(_, test, body) => {
+        StmtKind::While(test, body) => {
             add_expr(out, test)?;
-            add_block(out, body)?;
+            add_block(out, program, frame, body)?;
         }
-        StmtKind::Parfor(_, _, _, _) | StmtKind::Spmd(_, _) => out.push(s.place)?,
+        StmtKind::For(_, range, body) => {
+            add_expr(out, range)?;
+            add_block(out, program, frame, body)?;
+        }
+        StmtKind::Parfor(index, range, most, body) => {
+            let fits = is_form(program, frame, index, body);
+            add_workers(out, range, most, fits, s.place)?;
+        }
+        StmtKind::Spmd(_, _) => out.push(s.place)?,
         StmtKind::Switch(value, cases, last) => {
             add_expr(out, value)?;
-            add_arms(out, cases)?;
-            add_block(out, last)?;
+            add_arms(out, program, frame, cases)?;
+            add_block(out, program, frame, last)?;
         }
         StmtKind::Try(body, handler) => {
-            add_block(out, body)?;
-            add_block(out, handler)?;
+            add_block(out, program, frame, body)?;
+            add_block(out, program, frame, handler)?;
         }
         StmtKind::Break | StmtKind::Continue | StmtKind::Return => {}
     }
@@ -138,43 +185,71 @@ fn add_stmt(out: &mut Vec<Place>, s: &Stmt) -> Result<(), NoMemory>
 
 /// Adds the nodes of statements.
 #[cycle(blocks)]
-fn add_block(out: &mut Vec<Place>, body: &Items<Stmt>) -> Result<(), NoMemory>
-    ensures { OnOk result (out.new.items ≡ out.old.items ++ of_block body.now) }
+fn add_block(
+    out: &mut Vec<Place>,
+    program: &Resolved,
+    frame: Frame,
+    body: &Items<Stmt>,
+) -> Result<(), NoMemory>
+    ensures { OnOk result (out.new.items ≡ out.old.items ++ of_block program.now frame body.now) }
 {
     for s in body.as_slice() {
-        add_stmt(out, s)?;
+        add_stmt(out, program, frame, s)?;
     }
     Ok(())
 }
 
 /// Adds the nodes of tests and of what they guard.
 #[cycle(blocks)]
-fn add_arms(out: &mut Vec<Place>, arms: &Items<Arm>) -> Result<(), NoMemory>
-    ensures { OnOk result (out.new.items ≡ out.old.items ++ of_arms arms.now) }
+fn add_arms(
+    out: &mut Vec<Place>,
+    program: &Resolved,
+    frame: Frame,
+    arms: &Items<Arm>,
+) -> Result<(), NoMemory>
+    ensures { OnOk result (out.new.items ≡ out.old.items ++ of_arms program.now frame arms.now) }
 {
     for arm in arms.as_slice() {
         add_expr(out, &arm.test)?;
-        add_block(out, &arm.body)?;
+        add_block(out, program, frame, &arm.body)?;
     }
     Ok(())
 }
 
-/// Adds the nodes of functions.
-fn add_functions(out: &mut Vec<Place>, functions: &[Function]) -> Result<(), NoMemory>
-    ensures { OnOk result (out.new.items ≡ out.old.items ++ of_functions functions.now) }
+/// Adds the nodes of the statements of a scope.
+fn add_scope(
+    out: &mut Vec<Place>,
+    program: &Resolved,
+    scope: usize,
+    body: &Items<Stmt>,
+) -> Result<(), NoMemory>
+    ensures { OnOk result (out.new.items ≡ out.old.items ++ of_block program.now (frame_of scope) body.now) }
 {
-    for function in functions {
-        add_block(out, &function.body)?;
+    let frame = Frame {
+        scope,
+        given: 0,
+        wanted: 0,
+        ends: None,
+    };
+    add_block(out, program, frame, body)
+}
+
+/// Adds the nodes of functions.
+fn add_functions(out: &mut Vec<Place>, program: &Resolved) -> Result<(), NoMemory>
+    ensures { OnOk result (out.new.items ≡ out.old.items ++ of_functions program.now 1 program.now.program.functions) }
+{
+    for (i, function) in program.program.functions.as_slice().iter().enumerate() {
+        add_scope(out, program, i + 1, &function.body)?;
     }
     Ok(())
 }
 
 /// The nodes of a program, in the order of the text.
-pub(crate) fn nodes(alloc: Global, program: &Program) -> Result<Vec<Place>, NoMemory>
+pub(crate) fn nodes(alloc: Global, program: &Resolved) -> Result<Vec<Place>, NoMemory>
     ensures { IfOk result (λ v. v.items ≡ of_program program.now) }
 {
     let mut out = Vec::new(alloc);
-    add_block(&mut out, &program.body)?;
-    add_functions(&mut out, program.functions.as_slice())?;
+    add_scope(&mut out, program, 0, &program.program.body)?;
+    add_functions(&mut out, program)?;
     Ok(out)
 }

@@ -3,7 +3,7 @@ use Rattle.pl_meaning.specs.declared.halt.Halt.{Halt}
 use Rattle.pl_meaning.specs.Promises.{view, at, from}
 use Rattle.pl_meaning.specs.Parts.{below, level_at, value_in, outputs_in, listed_in, evaluated, shown_first, title, after_pass, columns_from, passes, looped, first_of, applied, deletion, entry_of, ran, argument_of, values_from, given_of, elements_from, elements as elements_part, rows_from, tested, stmt_in, sequel, block_from, values as values_part, rows as rows_part, block_in, called}
 use Rattle.pl_eval.proofs.Chains.{after_halts, after_went, comes_after, comes_cut, comes_halts, comes_item, comes_pass, first_halts, goes_on, inside_halts, inside_went, keeps_on, ok_more, same_err, same_halt}
-use Rattle.pl_eval.proofs.Nodes.{call_counted, call_found, compound_apply, compound_binary, compound_func, compound_range, compound_rows, compound_unary, inner_for, inner_if, inner_switch, inner_try, inner_while, stmt_assign, stmt_assign_list, stmt_delete, stmt_eval, stmt_for, stmt_if, stmt_parfor, stmt_spmd, stmt_switch, stmt_try, stmt_while, value_apply, value_binary, value_brace, value_chars, value_end, value_func, value_range, value_rows, value_state_of, value_unary, value_var}
+use Rattle.pl_eval.proofs.Nodes.{call_counted, call_found, compound_apply, compound_binary, compound_func, compound_range, compound_rows, compound_unary, ends_range, inner_for, inner_if, inner_parfor, inner_switch, inner_try, inner_while, stmt_assign, stmt_assign_list, stmt_delete, stmt_eval, stmt_for, stmt_if, stmt_parfor, stmt_spmd, stmt_switch, stmt_try, stmt_while, value_apply, value_binary, value_brace, value_chars, value_end, value_func, value_range, value_rows, value_state_of, value_unary, value_var}
 use Rattle.std.specs.Option.{option_copied}
 use Rattle.pl_eval.proofs.+running.Goals.{loops::repeat-else-loop-pass-test, loops::repeat-then-loop-pass-test+in_ok-test+else-not-branch+in_ok-take_turn+in_ok-block+in-Onward+else-pass-most}
 use Rattle.pl_operators.specs.Bracketing.{chars_of}
@@ -204,6 +204,24 @@ statements::compound-returns-in-Try-clause-ok g t c = rw (inner_try c.args.progr
 
 pub statements::compound-returns-in-Try-clause-err : goal.statements::compound-returns-in-Try-clause-err
 statements::compound-returns-in-Try-clause-err g t c = rw (inner_try c.args.program.now (level_at c.args.program.now (below c.args.program.now c.args.levels)) c.args.frame c.args.s.now _ _ c.in-Try.is) (c.attempt.ensures.err)
+
+pub statements::compound-returns-in-Parfor-clause-ok : goal.statements::compound-returns-in-Parfor-clause-ok
+statements::compound-returns-in-Parfor-clause-ok g t c = rw (inner_parfor c.args.program.now (level_at c.args.program.now (below c.args.program.now c.args.levels)) c.args.frame c.args.s.now _ _ _ _ c.in-Parfor.is) (c.divide.ensures.ok)
+
+pub statements::compound-returns-in-Parfor-clause-err : goal.statements::compound-returns-in-Parfor-clause-err
+statements::compound-returns-in-Parfor-clause-err g t c = rw (inner_parfor c.args.program.now (level_at c.args.program.now (below c.args.program.now c.args.levels)) c.args.frame c.args.s.now _ _ _ _ c.in-Parfor.is) (c.divide.ensures.err)
+
+pub sharing::ends-returns-in-Range-clause-ok : goal.sharing::ends-returns-in-Range-clause-ok
+sharing::ends-returns-in-Range-clause-ok g t c = rw (ends_range c.args.program.now (below c.args.program.now c.args.levels) c.args.frame c.args.e.now _ _ _ c.in-Range.is) (rw (c.get.ensures, c.get-in-Range.ensures) at (c.range_ends.ensures.ok))
+
+pub sharing::ends-returns-in-Range-clause-err : goal.sharing::ends-returns-in-Range-clause-err
+sharing::ends-returns-in-Range-clause-err g t c = rw (ends_range c.args.program.now (below c.args.program.now c.args.levels) c.args.frame c.args.e.now _ _ _ c.in-Range.is) (rw (c.get.ensures, c.get-in-Range.ensures) at (c.range_ends.ensures.err))
+
+pub sharing::inner_ends-returns-clause-ok : goal.sharing::inner_ends-returns-clause-ok
+sharing::inner_ends-returns-clause-ok g t c = rw c.in_ok-levels.ensures.ok (c.both_ends.ensures.ok)
+
+pub sharing::inner_ends-returns-clause-err : goal.sharing::inner_ends-returns-clause-err
+sharing::inner_ends-returns-clause-err g t c = rw c.in_ok-levels.ensures.ok (c.both_ends.ensures.err)
 
 pub expressions::nested-returns-clause-ok : goal.expressions::nested-returns-clause-ok
 expressions::nested-returns-clause-ok g t c = rw c.in_ok-levels.ensures.ok (c.compound.ensures.ok)
@@ -416,3 +434,9 @@ statements::evaluation-returns-clause-ok g t c = ok_more c.show_first.result _ _
 pub statements::evaluation-returns-clause-err : goal.statements::evaluation-returns-clause-err
 unfolding evaluated
 statements::evaluation-returns-clause-err g t c = λ x e. after_halts (outputs_in c.args.program.now (below c.args.program.now c.args.levels) c.args.frame 0 c.args.e.now) (λ vs. shown_first c.args.show (title c.args.program.now c.args.frame c.args.e.now) vs) (at c.args.memory.now (g.W.World.log c.args.world.now)) (at c.outputs.new.memory (g.W.World.log c.outputs.new.world)) (at c.outputs.new.memory (g.W.World.log c.show_first.new.world)) c.in_ok-values.values.items x (c.in_ok-values.ensures.ok) (c.show_first.ensures.keeps) (rw (c.as_slice.ensures.value) at (c.show_first.ensures.err x e))
+
+pub sharing::range_ends-returns-in-None-clause-ok : goal.sharing::range_ends-returns-in-None-clause-ok
+sharing::range_ends-returns-in-None-clause-ok g t c = rw c.in-None.is (c.inner_ends.ensures.ok)
+
+pub sharing::range_ends-returns-in-None-clause-err : goal.sharing::range_ends-returns-in-None-clause-err
+sharing::range_ends-returns-in-None-clause-err g t c = rw c.in-None.is (c.inner_ends.ensures.err)

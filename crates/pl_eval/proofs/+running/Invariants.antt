@@ -161,6 +161,21 @@ decreases-loops::counted g l = 32 * l.levels + 15
 abbrev pub decreases-loops::each_column : goal.decreases-loops::each_column
 decreases-loops::each_column g l = 32 * l.levels + 14
 
+abbrev pub decreases-sharing::ends : goal.decreases-sharing::ends
+decreases-sharing::ends g l = 32 * l.levels + 2
+
+abbrev pub decreases-sharing::range_ends : goal.decreases-sharing::range_ends
+decreases-sharing::range_ends g l = 32 * l.levels + 1
+
+abbrev pub decreases-sharing::inner_ends : goal.decreases-sharing::inner_ends
+decreases-sharing::inner_ends g l = 32 * l.levels + 0
+
+abbrev pub decreases-sharing::both_ends : goal.decreases-sharing::both_ends
+decreases-sharing::both_ends g l = 32 * l.levels + 4
+
+abbrev pub decreases-sharing::divide : goal.decreases-sharing::divide
+decreases-sharing::divide g l = 32 * l.levels + 16
+
 abbrev pub decreases-statements::block : goal.decreases-statements::block
 decreases-statements::block g l = 32 * l.levels + 13
 

@@ -8,4 +8,4 @@ pub returns-in-Err-clause-err : goal.returns-in-Err-clause-err
 unfolding read_end
 returns-in-Err-clause-err g c =
     let refused = rw c.get.ensures at c.in-Err.ensures in
-    λ x e. halts (read_end c.args.ends c.args.place) (at c.args.memory.now (g.W.World.log c.args._world.now)) _ c.fail.result x (λ k h answers. rw (sym refused) refl) c.fail.ensures cc
+    λ x e. halts (read_end c.args.ends c.args.place) (at c.args.memory.now (g.W.World.log c.args._world.now)) _ c.fail.result x (λ k h choices. rw (sym refused) refl) c.fail.ensures cc

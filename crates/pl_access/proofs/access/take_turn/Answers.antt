@@ -7,4 +7,4 @@ use Rattle.pl_access.proofs.access.take_turn.Goals as goal
 pub returns-then-memory-eq0-clause-err : goal.returns-then-memory-eq0-clause-err
 unfolding take_turn
 returns-then-memory-eq0-clause-err g c =
-    λ x e. halts (take_turn c.args.place) (at c.args.memory.now (g.W.World.log c.args._world.now)) _ c.fail.result x (λ k h answers. rw c.if-memory-eq0.true refl) c.fail.ensures cc
+    λ x e. halts (take_turn c.args.place) (at c.args.memory.now (g.W.World.log c.args._world.now)) _ c.fail.result x (λ k h choices. rw c.if-memory-eq0.true refl) c.fail.ensures cc

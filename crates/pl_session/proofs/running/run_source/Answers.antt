@@ -5,11 +5,11 @@ use Rattle.pl_session.proofs.running.run_source.Goals as goal
 
 pub returns-in-Ok-clause-part : goal.returns-in-Ok-clause-part
 returns-in-Ok-clause-part g c = λ ends.
-    subst (λ (s : List ℕ). PrintsPart s c.args.limits.turns (g.K.Sink.written c.args.out.now) (g.K.Sink.written c.run_ready.new.out)) c.of-script.ensures (c.run_ready.ensures.part ends)
+    subst (λ (s : List ℕ). PrintsPart s c.args.limits.turns c.run_ready.result.journal.entries (g.K.Sink.written c.args.out.now) (g.K.Sink.written c.run_ready.new.out)) c.of-script.ensures (c.run_ready.ensures.part ends)
 
 pub returns-in-Ok-clause-notes_part : goal.returns-in-Ok-clause-notes_part
 returns-in-Ok-clause-notes_part g c = λ ends.
-    subst (λ (s : List ℕ). NotesPart s c.args.limits.turns (g.N.Sink.written c.args.notes.now) (g.N.Sink.written c.run_ready.new.notes)) c.of-script.ensures (c.run_ready.ensures.notes_part ends)
+    subst (λ (s : List ℕ). NotesPart s c.args.limits.turns c.run_ready.result.journal.entries (g.N.Sink.written c.args.notes.now) (g.N.Sink.written c.run_ready.new.notes)) c.of-script.ensures (c.run_ready.ensures.notes_part ends)
 
 pub returns-in-Err-Is-clause-refused : goal.returns-in-Err-Is-clause-refused
 returns-in-Err-Is-clause-refused g c = λ ends.
@@ -17,5 +17,5 @@ returns-in-Err-Is-clause-refused g c = λ ends.
 
 pub returns-in-Err-Is-clause-notes_part : goal.returns-in-Err-Is-clause-notes_part
 returns-in-Err-Is-clause-notes_part g c = λ ends.
-    subst (λ (s : List ℕ). NotesPart s c.args.limits.turns (g.N.Sink.written c.args.notes.now) (g.N.Sink.written c.end_with_refusal.new.notes)) c.of-script.ensures
+    subst (λ (s : List ℕ). NotesPart s c.args.limits.turns c.end_with_refusal.result.journal.entries (g.N.Sink.written c.args.notes.now) (g.N.Sink.written c.end_with_refusal.new.notes)) c.of-script.ensures
     (c.end_with_refusal.ensures.notes_part (elim ends [ inl four ↦ four | inr nine ↦ absurd (no_nine c.end_with_refusal.result.status.0 c.end_with_refusal.ensures.statuses nine) ]))

@@ -6,11 +6,11 @@ use Rattle.pl_session.proofs.session.run_file.Goals as goal
 
 pub returns-in-Ok-clause-done : goal.returns-in-Ok-clause-done
 returns-in-Ok-clause-done g c = λ zero.
-    subst (λ (script : List ℕ). Ends script c.args.limits.turns (g.K.Sink.written c.args.out.now) (g.K.Sink.written c.run_source.new.out)) (sym c.run_source.ensures.script) (c.run_source.ensures.done zero)
+    subst (λ (script : List ℕ). Ends script c.args.limits.turns c.run_source.result.journal.entries (g.K.Sink.written c.args.out.now) (g.K.Sink.written c.run_source.new.out)) (sym c.run_source.ensures.script) (c.run_source.ensures.done zero)
 
 pub returns-in-Ok-clause-raised : goal.returns-in-Ok-clause-raised
 returns-in-Ok-clause-raised g c = λ one.
-    subst (λ (script : List ℕ). Raises script c.args.limits.turns (g.K.Sink.written c.args.out.now) (g.K.Sink.written c.run_source.new.out) (g.N.Sink.written c.args.notes.now) (g.N.Sink.written c.run_source.new.notes)) (sym c.run_source.ensures.script) (c.run_source.ensures.raised one)
+    subst (λ (script : List ℕ). Raises script c.args.limits.turns c.run_source.result.journal.entries (g.K.Sink.written c.args.out.now) (g.K.Sink.written c.run_source.new.out) (g.N.Sink.written c.args.notes.now) (g.N.Sink.written c.run_source.new.notes)) (sym c.run_source.ensures.script) (c.run_source.ensures.raised one)
 
 pub returns-in-Ok-clause-refused : goal.returns-in-Ok-clause-refused
 returns-in-Ok-clause-refused g c = λ five.
@@ -18,11 +18,11 @@ returns-in-Ok-clause-refused g c = λ five.
 
 pub returns-in-Ok-clause-part : goal.returns-in-Ok-clause-part
 returns-in-Ok-clause-part g c = λ ends.
-    subst (λ (script : List ℕ). PrintsPart script c.args.limits.turns (g.K.Sink.written c.args.out.now) (g.K.Sink.written c.run_source.new.out)) (sym c.run_source.ensures.script) (c.run_source.ensures.part ends)
+    subst (λ (script : List ℕ). PrintsPart script c.args.limits.turns c.run_source.result.journal.entries (g.K.Sink.written c.args.out.now) (g.K.Sink.written c.run_source.new.out)) (sym c.run_source.ensures.script) (c.run_source.ensures.part ends)
 
 pub returns-in-Ok-clause-notes_part : goal.returns-in-Ok-clause-notes_part
 returns-in-Ok-clause-notes_part g c = λ ends.
-    inl (subst (λ (script : List ℕ). NotesPart script c.args.limits.turns (g.N.Sink.written c.args.notes.now) (g.N.Sink.written c.run_source.new.notes)) (sym c.run_source.ensures.script) (c.run_source.ensures.notes_part ends))
+    inl (subst (λ (script : List ℕ). NotesPart script c.args.limits.turns c.run_source.result.journal.entries (g.N.Sink.written c.args.notes.now) (g.N.Sink.written c.run_source.new.notes)) (sym c.run_source.ensures.script) (c.run_source.ensures.notes_part ends))
 
 pub returns-in-Ok-clause-script : goal.returns-in-Ok-clause-script
 returns-in-Ok-clause-script g c = λ ends.
@@ -35,5 +35,5 @@ returns-in-Ok-clause-script_part g c =
 -- a file that is too long
 pub returns-in-Err-Is-TooLong-clause-notes_part : goal.returns-in-Err-Is-TooLong-clause-notes_part
 returns-in-Err-Is-TooLong-clause-notes_part g c = λ ends.
-    inl (subst (λ (script : List ℕ). NotesPart script c.args.limits.turns (g.N.Sink.written c.args.notes.now) (g.N.Sink.written c.close.new.notes)) (sym c.close.ensures.script)
+    inl (subst (λ (script : List ℕ). NotesPart script c.args.limits.turns c.close.result.journal.entries (g.N.Sink.written c.args.notes.now) (g.N.Sink.written c.close.new.notes)) (sym c.close.ensures.script)
     (inr (too_long_line, inl (5, inl (search rules, refl, refl)), c.close.ensures.part (elim ends [ inl four ↦ four | inr nine ↦ absurd (not_nine c.close.result.status.0 c.close.ensures.statuses nine) ]))))

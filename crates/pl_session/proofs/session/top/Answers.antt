@@ -10,5 +10,5 @@ pub returns-in-Some-clause-notes_part : goal.returns-in-Some-clause-notes_part
 returns-in-Some-clause-notes_part g c = λ command is ends.
     let name : c.in-Some.command.name.now ≡ command.name = ap (λ (x : Command). x.name) (some_is (sym c.in-Some.ensures ∙ is)) in
     let turns : c.in-Some.command.turns ≡ c.run_file.result.journal.turns = sym (ap (λ (j : Journal). j.turns) c.run_file.ensures.journal) in
-    subst (λ (n : List ℕ). LinePart n c.run_file.result.script c.run_file.result.journal.turns (g.N.Sink.written c.args.notes.now) (g.N.Sink.written c.run_file.new.notes)) name
-    (subst (λ (t : ℕ). LinePart c.in-Some.command.name.now c.run_file.result.script t (g.N.Sink.written c.args.notes.now) (g.N.Sink.written c.run_file.new.notes)) turns (c.run_file.ensures.notes_part ends))
+    subst (λ (n : List ℕ). LinePart n c.run_file.result.script c.run_file.result.journal.turns c.run_file.result.journal.entries (g.N.Sink.written c.args.notes.now) (g.N.Sink.written c.run_file.new.notes)) name
+    (subst (λ (t : ℕ). LinePart c.in-Some.command.name.now c.run_file.result.script t c.run_file.result.journal.entries (g.N.Sink.written c.args.notes.now) (g.N.Sink.written c.run_file.new.notes)) turns (c.run_file.ensures.notes_part ends))

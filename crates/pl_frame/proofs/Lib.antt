@@ -1,0 +1,13 @@
+pub mod Framed
+pub mod Layers
+pub mod Functions
+pub mod Values
+pub mod Growth
+pub mod Order
+pub mod Assigning
+pub mod Own
+pub mod Slots
+pub mod Bodies
+pub mod Iteration
+pub mod Turns
+pub mod Orders

@@ -1,0 +1,5 @@
+use Rattle.pl_frame.proofs.Orders.{every_order}
+use Rattle.pl_frame.proofs.laws.any_order_is_right.Goals as goal
+
+pub returns : goal.returns
+returns c = every_order
