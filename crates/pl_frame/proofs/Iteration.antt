@@ -1,7 +1,7 @@
 -- One iteration of a loop from the workspace before the loop, and from one in which other iterations have written.
 use Rattle.std.specs.Prelude.{◌||◌, int_lt, slice_set}
 use Rattle.std.specs.List.{list_all}
-use Rattle.std.proofs.Common.{◌≡◌, ◌∙◌, ℕ, ◌*◌, ◌<◌, ◌≤◌, ◌==◌, max, ℤ, pos, List, [], ◌∷◌, ◌++◌, length, get_or, Bool, true, false, cond, Option, Some, None, Result, Ok, Err, arith, refl, sym, ap, subst}
+use Rattle.std.proofs.Common.{◌≡◌, ◌∙◌, ℕ, ◌*◌, ◌<◌, ◌≤◌, ◌==◌, ◌⊎◌, inl, inr, max, ℤ, pos, List, [], ◌∷◌, ◌++◌, length, get_or, Bool, true, false, cond, Option, Some, None, Result, Ok, Err, arith, refl, sym, ap, subst}
 use Rattle.std.specs.Cmp.Lexicographic.{same_text}
 use Rattle.std.proofs.lemmas.List.{length-set}
 use Rattle.std.proofs.lemmas.Bool.{eqb-true, eqb-false, eq-eqb}
@@ -11,7 +11,7 @@ use Rattle.pl_base.specs.declared.errors.ScriptError.{ScriptError}
 use Rattle.pl_errors.specs.Errors.{error_of}
 use Rattle.pl_array.specs.declared.class.Class.{Class}
 use Rattle.pl_array.specs.declared.class.Class.TheVariants.{Logical, Int, Char}
-use Rattle.pl_array.specs.Arrays.{Array, IsValid, most}
+use Rattle.pl_array.specs.Arrays.{Array, most}
 use Rattle.pl_array.specs.Cellwise.{shape_of, is_true, truth}
 use Rattle.pl_array.specs.Joining.{converted, is_no_char}
 use Rattle.pl_index.specs.Places.{place_of}
@@ -37,19 +37,22 @@ use Rattle.pl_meaning.specs.Parts.{below, block_from, written_in, sequel, value_
 use Rattle.pl_meaning.specs.Forms.{is_among, is_item}
 use Rattle.pl_meaning.specs.Loops.{own_places, body_frame}
 use Rattle.pl_frame.specs.Seeing.{standing, Comes_to, Framed, Alike}
+use Rattle.pl_frame.specs.Ordering.{HasArray}
 use Rattle.pl_frame.proofs.Values.{Framing, all_framed, own_list, and_first, and_second}
 use Rattle.pl_frame.proofs.Growth.{Grown, from_line, to_line, reaches, either_grown, second_step, within_most}
 use Rattle.pl_frame.proofs.Assigning.{tip, Converts, Succeeded, succeeds, last_of, top, Holding, last_of-append, top-append, holds_more}
-use Rattle.pl_frame.proofs.Own.{cell_alone, selected, has_place, assigns, Assigned, assigned_how, holds_alike}
+use Rattle.pl_frame.proofs.Own.{cell_alone, selected, has_place, assigns, Assigned, assigned_how, class_in, class_of_array, assigns_new, made_new, holds_alike}
 use Rattle.pl_frame.proofs.Slots.{set_here, set_elsewhere, has_slot, one_name}
+use Rattle.pl_frame.proofs.Keeping.{keeps}
 use Rattle.pl_frame.proofs.Bodies.{same_self, among_alike, Item, item_of, among_more, stmt_is, goes, fails_value, fails_put}
 
--- a loop of the form, before which each variable that its body writes has an array
+-- a loop of the form, before which each variable that its body writes has an array or nothing, and the class of each that is new
 pub record Laid (program : Resolved) (q : Question) (env : Workspace) : Type 0 where
   pub at : ℕ
   pub at_is : slot_of program (body_frame q) q.index.text ≡ Some at
   pub at_within : at < length env
-  pub arrays : (n : Name) (s : ℕ) → is_among (written_in q.body) n ≡ true → slot_of program (body_frame q) n.text ≡ Some s → (a : Array) × (value_at env s ≡ Some (value.Array a)) × IsValid a
+  pub classes : ℕ → Class
+  pub arrays : (n : Name) (s : ℕ) → is_among (written_in q.body) n ≡ true → slot_of program (body_frame q) n.text ≡ Some s → HasArray env s ⊎ ((s < length env) × (value_at env s ≡ None))
   pub items : list_all (is_item program (body_frame q) q.index (written_in q.body)) q.body ≡ true
 
 -- the array of a value
@@ -57,11 +60,11 @@ abbrev pub array_layer : Value-F Value → Array
 array_layer (Value-F.Array a) = a
 array_layer layer = nothing Int
 
-abbrev pub array_or : Option Value → Array
-array_or None = nothing Int
-array_or (Some v) = array_layer (out-Value v)
+abbrev pub array_or : Class → Option Value → Array
+array_or class None = nothing class
+array_or class (Some v) = array_layer (out-Value v)
 
-pub array_there : (a : Array) → array_or (Some (value.Array a)) ≡ a
+pub array_there : (a : Array) → array_layer (out-Value (value.Array a)) ≡ a
 array_there a = ap array_layer (outs-Array a)
 
 -- what an iteration wrote to a variable, if it did
@@ -112,6 +115,16 @@ own_twice ws i o z = (tops o, cells o)
 some_same : {A : Type 0} (a b : A) → Some a ≡ Some b → a ≡ b
 some_same a b e = cc
 
+some_none : {A : Type 0} (a : A) → ◌≡◌ {A = Option A} (Some a) None → ⊥
+some_none a e = cc
+
+pub rest_empty : {A : Type 0} (us vs : List A) → us ++ vs ≡ [] → vs ≡ []
+rest_empty [] vs h = h
+rest_empty (u ∷ us) vs h = absurd (cc)
+
+pub some_own : (i z : ℤ) → ◌≡◌ {A = List (ℕ × ℤ)} (own i (Some z)) [] → ⊥
+some_own i z e = cc
+
 module _ (program : Resolved) (q : Question) (env : Workspace) (depth : ℕ) (L : Laid program q env) where
   abbrev f : Frame
   f = body_frame q
@@ -123,21 +136,71 @@ module _ (program : Resolved) (q : Question) (env : Workspace) (depth : ℕ) (L 
   abbrev pub Written : ℕ → Type 0
   Written s = (n : Name) × (is_among names n ≡ true) × (slot_of program f n.text ≡ Some s)
 
-  -- the array that is there before the loop
+  -- the array that is there before the loop; of a variable that is new with it, no cells
   abbrev pub base : ℕ → Array
-  base s = array_or (value_at env s)
+  base s = array_or (L.classes s) (value_at env s)
 
   pub base_is : (s : ℕ) (a : Array) → value_at env s ≡ Some (value.Array a) → base s ≡ a
-  base_is s a e = ap array_or e ∙ array_there a
+  base_is s a e = ap (array_or (L.classes s)) e ∙ array_there a
 
-  pub base_valid : (s : ℕ) → Written s → IsValid (base s)
-  base_valid s w = let a = L.arrays w.0 s w.1 w.2 in subst IsValid (sym (base_is s a.0 a.1)) a.2
+  pub base_new : (s : ℕ) → value_at env s ≡ None → base s ≡ nothing (L.classes s)
+  base_new s e = ap (array_or (L.classes s)) e
+
+  abbrev Bounded : Array → Type 0
+  Bounded a = (length a.cells ≡ a.rows * a.cols) × (a.rows * a.cols ≤ most)
+
+  pub base_bounded : (s : ℕ) → Written s → Bounded (base s)
+  base_bounded s w = elim (L.arrays w.0 s w.1 w.2) [
+    | inl a ↦ subst Bounded (sym (base_is s a.0 a.1)) (a.2.count, a.2.limit)
+    | inr n ↦ subst Bounded (sym (base_new s n.1)) (refl, omega arith)
+  ]
+
+  pub holds_base : (s : ℕ) → Written s → (us : List (ℕ × ℤ)) → us ≡ [] → Holding (base s) us (base s)
+  holds_base s w us e = subst (λ (ws : List (ℕ × ℤ)). Holding (base s) ws (base s)) (sym e) (record { class = refl; grown = Grown.stays (omega arith) refl; count = (base_bounded s w).0; cells = λ k. refl })
+
+  -- a workspace has an array of a variable, which holds these writes
+  pub record Filled (W : Workspace) (s : ℕ) (us : List (ℕ × ℤ)) : Type 0 where
+    pub array : Array
+    pub there : value_at W s ≡ Some (value.Array array)
+    pub holds : Holding (base s) us array
+    pub begun : us ≡ [] → value_at env s ≡ None → ⊥
+
+  -- it has nothing of a variable that is new with the loop, as nothing was written
+  pub record Empty (W : Workspace) (s : ℕ) (us : List (ℕ × ℤ)) : Type 0 where
+    pub within : s < length W
+    pub nothing_there : value_at W s ≡ None
+    pub nothing_before : value_at env s ≡ None
+    pub unwritten : us ≡ []
+
+  abbrev pub Link : Workspace → ℕ → List (ℕ × ℤ) → Type 0
+  Link W s us = Filled W s us ⊎ Empty W s us
+
+  pub link_elsewhere : (W : Workspace) (j s : ℕ) (v : Option Value) (us : List (ℕ × ℤ)) → (j ≡ s → ⊥) → Link W s us → Link (slice_set W j v) s us
+  link_elsewhere W j s v us apart (inl F) = inl (record { array = F.array; there = set_elsewhere W j s v apart ∙ F.there; holds = F.holds; begun = F.begun })
+  link_elsewhere W j s v us apart (inr E) = inr (record {
+    within = (let n : length (slice_set W j v) ≡ length W = length-set W j v in let m : s < length W = E.within in omega arith);
+    nothing_there = set_elsewhere W j s v apart ∙ E.nothing_there;
+    nothing_before = E.nothing_before;
+    unwritten = E.unwritten;
+  })
+
+  link_within : (W : Workspace) (s : ℕ) (us : List (ℕ × ℤ)) → Link W s us → s < length W
+  link_within W s us (inl F) = has_slot W s (value.Array F.array) F.there
+  link_within W s us (inr E) = E.within
+
+  pub link_filled : (W : Workspace) (s : ℕ) (us : List (ℕ × ℤ)) → (us ≡ [] → ⊥) → Link W s us → Filled W s us
+  link_filled W s us some (inl F) = F
+  link_filled W s us some (inr E) = absurd (some E.unwritten)
 
   -- a workspace in which the loop's variables hold these writes, and all else but the index is as before the loop
   pub record Between (ws : ℕ → List (ℕ × ℤ)) (W : Workspace) : Type 0 where
     pub wide : L.at < length W
     pub apart : (s : ℕ) → (Written s → ⊥) → (s ≡ L.at → ⊥) → value_at W s ≡ value_at env s
-    pub held : (s : ℕ) → Written s → (b : Array) × (value_at W s ≡ Some (value.Array b)) × Holding (base s) (ws s) b
+    pub held : (s : ℕ) → Written s → Link W s (ws s)
+
+  -- each variable that is new with the loop has an array of its class
+  abbrev pub Ends_in : Workspace → Type 0
+  Ends_in one = (s : ℕ) → Written s → value_at env s ≡ None → (b : Array) × (value_at one s ≡ Some (value.Array b)) × (b.class ≡ L.classes s)
 
   pub not_written : (n : Name) (s : ℕ) → is_among names n ≡ false → slot_of program f n.text ≡ Some s → Written s → ⊥
   not_written n s h is w =
@@ -154,10 +217,7 @@ module _ (program : Resolved) (q : Question) (env : Workspace) (depth : ℕ) (L 
     all_of o s = vs s ++ own i (o s)
 
     seen_parts : (o : ℕ → Option ℤ) (E W : Workspace) → Between (mine o) E → Between (all_of o) W → (s : ℕ) → Written s → (v : Value) → value_at E s ≡ Some v → (w : Value) × (value_at W s ≡ Some w) × ((x : Value) → select_value v (own_places i) ≡ Ok x → select_value w (own_places i) ≡ Ok x)
-    seen_parts o E W BE BW s w v held =
-        let eb = BE.held s w in
-        let wb = BW.held s w in
-        (value.Array wb.0, wb.1, λ x h. picks eb.0 wb.0 eb.2 wb.2 x (subst (λ (u : Value). select_value u (own_places i) ≡ Ok x) (some_same v (value.Array eb.0) (sym held ∙ eb.1)) h))
+    seen_parts o E W BE BW s w v held = by_links (BE.held s w) (BW.held s w)
       where
         picks : (b c : Array) → Holding (base s) (own i (o s)) b → Holding (base s) (vs s ++ own i (o s)) c → (x : Value) → select_value (value.Array b) (own_places i) ≡ Ok x → select_value (value.Array c) (own_places i) ≡ Ok x
         picks b c H J x h =
@@ -174,6 +234,12 @@ module _ (program : Resolved) (q : Question) (env : Workspace) (depth : ℕ) (L 
             ∙ ap (λ (z : ℤ). Ok (value.Array (cell_alone b.class z))) cell
             ∙ sym (selected b i there.0 there.1)
             ∙ h
+
+        by_links : Link E s (mine o s) → Link W s (all_of o s) → (w : Value) × (value_at W s ≡ Some w) × ((x : Value) → select_value v (own_places i) ≡ Ok x → select_value w (own_places i) ≡ Ok x)
+        by_links (inl e) (inl c) = (value.Array c.array, c.there, λ x h. picks e.array c.array e.holds c.holds x (subst (λ (u : Value). select_value u (own_places i) ≡ Ok x) (some_same v (value.Array e.array) (sym held ∙ e.there)) h))
+        by_links (inl e) (inr n) = absurd (e.begun (rest_empty (vs s) (own i (o s)) n.unwritten) n.nothing_before)
+        by_links (inr n) (inl c) = absurd (some_none v (sym held ∙ n.nothing_there))
+        by_links (inr n) (inr m) = absurd (some_none v (sym held ∙ n.nothing_there))
 
     seen_apart : (o : ℕ → Option ℤ) (E W : Workspace) → Between (mine o) E → Between (all_of o) W → value_at E L.at ≡ Some (number_of i) → value_at W L.at ≡ Some (number_of i) → (n : Name) (s : ℕ) → is_among names n ≡ false → slot_of program f n.text ≡ Some s → (b : Bool) → (s == L.at) ≡ b → value_at E s ≡ value_at W s
     seen_apart o E W BE BW ei wi n s h is true e =
@@ -209,19 +275,17 @@ module _ (program : Resolved) (q : Question) (env : Workspace) (depth : ℕ) (L 
     abbrev with_value : (ℕ → Option ℤ) → ℕ → ℤ → ℕ → Option ℤ
     with_value o slot z s = cond (slot == s) (Some z) (o s)
 
-    put_array : (ws us : ℕ → List (ℕ × ℤ)) (W : Workspace) (slot : ℕ) (b : Array) → Between ws W → Written slot → (slot ≡ L.at → ⊥) → ((s : ℕ) → (slot == s) ≡ false → us s ≡ ws s) → Holding (base slot) (us slot) b → Between us (slice_set W slot (Some (value.Array b)))
-    put_array ws us W slot b B w apart same H = record {
+    put_array : (ws us : ℕ → List (ℕ × ℤ)) (W : Workspace) (slot : ℕ) (b : Array) → Between ws W → Written slot → (slot ≡ L.at → ⊥) → ((s : ℕ) → (slot == s) ≡ false → us s ≡ ws s) → Holding (base slot) (us slot) b → (us slot ≡ [] → ⊥) → Between us (slice_set W slot (Some (value.Array b)))
+    put_array ws us W slot b B w apart same H some = record {
       wide = (let n : length (slice_set W slot (Some (value.Array b))) ≡ length W = length-set W slot (Some (value.Array b)) in let m : L.at < length W = B.wide in omega arith);
       apart = λ s none other. set_elsewhere W slot s (Some (value.Array b)) (λ e. none (subst Written e w)) ∙ B.apart s none other;
       held = λ s x. held s x (slot == s) refl;
     }
       where
-        held : (s : ℕ) → Written s → (t : Bool) → (slot == s) ≡ t → (c : Array) × (value_at (slice_set W slot (Some (value.Array b))) s ≡ Some (value.Array c)) × Holding (base s) (us s) c
-        held s x true e = subst (λ (j : ℕ). (c : Array) × (value_at (slice_set W slot (Some (value.Array b))) j ≡ Some (value.Array c)) × Holding (base j) (us j) c) (eqb-true slot s e)
-            (b, set_here W slot (value.Array b) (has_slot W slot (value.Array (B.held slot w).0) (B.held slot w).1), H)
-        held s x false e =
-            let old = B.held s x in
-            (old.0, set_elsewhere W slot s (Some (value.Array b)) (eqb-false slot s e) ∙ old.1, subst (λ (us : List (ℕ × ℤ)). Holding (base s) us old.0) (sym (same s e)) old.2)
+        held : (s : ℕ) → Written s → (t : Bool) → (slot == s) ≡ t → Link (slice_set W slot (Some (value.Array b))) s (us s)
+        held s x true e = subst (λ (j : ℕ). Link (slice_set W slot (Some (value.Array b))) j (us j)) (eqb-true slot s e)
+            (inl (record { array = b; there = set_here W slot (value.Array b) (link_within W slot (ws slot) (B.held slot w)); holds = H; begun = λ none new. some none }))
+        held s x false e = subst (λ (us : List (ℕ × ℤ)). Link (slice_set W slot (Some (value.Array b))) s us) (sym (same s e)) (link_elsewhere W slot s (Some (value.Array b)) (ws s) (eqb-false slot s e) (B.held s x))
 
     -- ## A body
 
@@ -243,13 +307,13 @@ module _ (program : Resolved) (q : Question) (env : Workspace) (depth : ℕ) (L 
     done_same a b c d h = cc
 
     abbrev Fixed : List Stmt → (ℕ → Option ℤ) → Workspace → Workspace → Type 0
-    Fixed ss o E W = Between (mine o) E → Between (all_of o) W → value_at E L.at ≡ Some (number_of i) → value_at W L.at ≡ Some (number_of i) → (t : ℕ) (c d : List Choice) (r : Rules) (one : Workspace) → (block_from program (below program depth) f ss finished failed (standing E t c r)).ending ≡ Done one d → Ran ss o E W one t c r
+    Fixed ss o E W = Between (mine o) E → Between (all_of o) W → value_at E L.at ≡ Some (number_of i) → value_at W L.at ≡ Some (number_of i) → (t : ℕ) (c d : List Choice) (r : Rules) (one : Workspace) → Ends_in one → (block_from program (below program depth) f ss finished failed (standing E t c r)).ending ≡ Done one d → Ran ss o E W one t c r
 
     abbrev Fits_in : List Stmt → Type 0
     Fits_in ss = (n : Name) → is_among (written_in ss) n ≡ true → is_among names n ≡ true
 
     -- a statement and those behind it
-    module _ (s : Stmt) (more : List Stmt) (I : Item program f q.index names s) (fits : Fits_in (s ∷ more)) where
+    module _ (s : Stmt) (more : List Stmt) (I : Item program f q.index names s) (fits : Fits_in (s ∷ more)) (behind : list_all (is_item program f q.index names) more ≡ true) where
       among : is_among names I.name ≡ true
       among = fits I.name (among_more program f q.index names s more I I.name ∙ ap (λ (b : Bool). b || is_among (written_in more) I.name) (same_self I.name.text))
 
@@ -282,53 +346,86 @@ module _ (program : Resolved) (q : Question) (env : Workspace) (depth : ℕ) (L 
       this_slot : (o : ℕ → Option ℤ) (z : ℤ) → with_value o I.slot z I.slot ≡ Some z
       this_slot o z = ap (λ (t : Bool). cond t (Some z) (o I.slot)) (eq-eqb I.slot I.slot refl)
 
-      step : (o : ℕ → Option ℤ) (E W : Workspace) (ts : List Trace) (v a : Value) → Between (mine o) E → Between (all_of o) W → value_at E L.at ≡ Some (number_of i) → value_at W L.at ≡ Some (number_of i) → Comes_to (value_in program (below program depth) f I.value) E ts (Ok v) → Comes_to (value_in program (below program depth) f I.value) W ts (Ok v) → assign_value (value_at E I.slot) (own_places i) v ≡ Ok a → Stepped o E W ts
-      step o E W ts v a BE BW ei wi VE VW A =
-          let eb = BE.held I.slot slot_written in
-          let wb = BW.held I.slot slot_written in
-          let D : Assigned eb.0 i v = assigned_how eb.0 i v a (subst (λ (u : Option Value). assign_value u (own_places i) v ≡ Ok a) eb.1 A) in
-          let S : Succeeded eb.0 D.cells i = D.how in
+      own_full : (o : ℕ → Option ℤ) (z : ℤ) → own i (with_value o I.slot z I.slot) ≡ [] → ⊥
+      own_full o z e = some_own i z (sym (ap (own i) (this_slot o z)) ∙ e)
+
+      step : (o : ℕ → Option ℤ) (E W : Workspace) (ts : List Trace) (v a : Value) → Between (mine o) E → Between (all_of o) W → value_at E L.at ≡ Some (number_of i) → value_at W L.at ≡ Some (number_of i) → Comes_to (value_in program (below program depth) f I.value) E ts (Ok v) → Comes_to (value_in program (below program depth) f I.value) W ts (Ok v)
+          → (eb wb : Array) → Holding (base I.slot) (own i (o I.slot)) eb → Holding (base I.slot) (all_of o I.slot) wb → assign_value (value_at E I.slot) (own_places i) v ≡ assign_value (Some (value.Array eb)) (own_places i) v → assign_value (value_at W I.slot) (own_places i) v ≡ assign_value (Some (value.Array wb)) (own_places i) v → assign_value (value_at E I.slot) (own_places i) v ≡ Ok a → Stepped o E W ts
+      step o E W ts v a BE BW ei wi VE VW eb wb HE HW as_e as_w A =
+          let D : Assigned eb i v = assigned_how eb i v a (sym as_e ∙ A) in
+          let S : Succeeded eb D.cells i = D.how in
           let Bs : Array = base I.slot in
-          let grow_one : Grown (shape_of eb.0) (tip i) S.shape = from_line (shape_of eb.0) (tip i) S.shape S.line in
-          let new_one : Array = stored eb.0 S.shape (place_of i ∷ []) (S.value ∷ []) in
-          let held_one : Holding Bs (own i (o I.slot) ++ (place_of i, S.value) ∷ []) new_one = holds_more Bs eb.0 (own i (o I.slot)) i S.value S.shape eb.2 grow_one in
+          let grow_one : Grown (shape_of eb) (tip i) S.shape = from_line (shape_of eb) (tip i) S.shape S.line in
+          let new_one : Array = stored eb S.shape (place_of i ∷ []) (S.value ∷ []) in
+          let held_one : Holding Bs (own i (o I.slot) ++ (place_of i, S.value) ∷ []) new_one = holds_more Bs eb (own i (o I.slot)) i S.value S.shape HE grow_one in
           let twice = own_twice [] i (o I.slot) S.value in
           let own_one : Holding Bs (own i (Some S.value)) new_one = holds_alike Bs new_one (own i (o I.slot) ++ (place_of i, S.value) ∷ []) (own i (Some S.value)) held_one twice.0 twice.1 in
           let tips : top (own i (Some S.value)) ≡ tip i = omega arith in
           let grow_base : Grown (shape_of Bs) (tip i) (shape_of new_one) = subst (λ (t : ℕ). Grown (shape_of Bs) t (shape_of new_one)) tips own_one.grown in
-          let both = either_grown (shape_of Bs) (top (all_of o I.slot)) (tip i) (shape_of wb.0) (shape_of new_one) wb.2.grown grow_base in
-          let grow_whole : Grown (shape_of wb.0) (tip i) both.0 = second_step (shape_of Bs) (top (all_of o I.slot)) (tip i) (shape_of wb.0) both.0 wb.2.grown both.1 in
-          let new_whole : Array = stored wb.0 both.0 (place_of i ∷ []) (S.value ∷ []) in
-          let converts : Converts D.cells wb.0.class S.value = subst (λ (k : Class). Converts D.cells k S.value) (eb.2.class ∙ sym wb.2.class) S.converts in
-          let held_whole : Holding Bs (all_of o I.slot ++ (place_of i, S.value) ∷ []) new_whole = holds_more Bs wb.0 (all_of o I.slot) i S.value both.0 wb.2 grow_whole in
+          let both = either_grown (shape_of Bs) (top (all_of o I.slot)) (tip i) (shape_of wb) (shape_of new_one) HW.grown grow_base in
+          let grow_whole : Grown (shape_of wb) (tip i) both.0 = second_step (shape_of Bs) (top (all_of o I.slot)) (tip i) (shape_of wb) both.0 HW.grown both.1 in
+          let new_whole : Array = stored wb both.0 (place_of i ∷ []) (S.value ∷ []) in
+          let converts : Converts D.cells wb.class S.value = subst (λ (k : Class). Converts D.cells k S.value) (HE.class ∙ sym HW.class) S.converts in
+          let held_whole : Holding Bs (all_of o I.slot ++ (place_of i, S.value) ∷ []) new_whole = holds_more Bs wb (all_of o I.slot) i S.value both.0 HW grow_whole in
           let again = own_twice (vs I.slot) i (o I.slot) S.value in
           let own_whole : Holding Bs (vs I.slot ++ own i (Some S.value)) new_whole = holds_alike Bs new_whole (all_of o I.slot ++ (place_of i, S.value) ∷ []) (vs I.slot ++ own i (Some S.value)) held_whole again.0 again.1 in
-          let kept = converted_twice eb.0.class S.converts.cell S.value S.converts.allowed S.converts.is in
+          let kept = converted_twice eb.class S.converts.cell S.value S.converts.allowed S.converts.is in
           record {
             z = S.value;
             one = slice_set E I.slot (Some (value.Array new_one));
             whole = slice_set W I.slot (Some (value.Array new_whole));
             one_runs = λ t c r. run_is E t c r ∙ goes program f q.index names (below program depth) i I.name I.list I.value I.slot I.slot_is E ts v (value.Array new_one) VE
                 (own_list program f q.index names i E W (alike o E W BE BW ei wi) L.at L.at_is (value_in program (below program depth)) (frames o E W BE BW ei wi) None I.slot I.list I.own E ei)
-                (ap (λ (u : Option Value). assign_value u (own_places i) v) eb.1 ∙ assigns eb.0 D.cells new_one i v D.is (succeeds eb.0 D.cells i S.value S.shape S.low S.line S.converts)) _ failed t c r;
+                (as_e ∙ assigns eb D.cells new_one i v D.is (succeeds eb D.cells i S.value S.shape S.low S.line S.converts)) _ failed t c r;
             whole_runs = λ t c r. run_is W t c r ∙ goes program f q.index names (below program depth) i I.name I.list I.value I.slot I.slot_is W ts v (value.Array new_whole) VW
                 (own_list program f q.index names i E W (alike o E W BE BW ei wi) L.at L.at_is (value_in program (below program depth)) (frames o E W BE BW ei wi) None I.slot I.list I.own W wi)
-                (ap (λ (u : Option Value). assign_value u (own_places i) v) wb.1 ∙ assigns wb.0 D.cells new_whole i v D.is (succeeds wb.0 D.cells i S.value both.0 S.low (to_line (shape_of wb.0) (tip i) both.0 grow_whole) converts)) _ failed t c r;
+                (as_w ∙ assigns wb D.cells new_whole i v D.is (succeeds wb D.cells i S.value both.0 S.low (to_line (shape_of wb) (tip i) both.0 grow_whole) converts)) _ failed t c r;
             here = put_array (mine o) (mine (with_value o I.slot S.value)) E I.slot new_one BE slot_written slot_apart (λ j e. ap (λ (t : Bool). own i (cond t (Some S.value) (o j))) e)
-                (subst (λ (u : Option ℤ). Holding Bs (own i u) new_one) (sym (this_slot o S.value)) own_one);
+                (subst (λ (u : Option ℤ). Holding Bs (own i u) new_one) (sym (this_slot o S.value)) own_one) (own_full o S.value);
             there = put_array (all_of o) (all_of (with_value o I.slot S.value)) W I.slot new_whole BW slot_written slot_apart (λ j e. ap (λ (t : Bool). vs j ++ own i (cond t (Some S.value) (o j))) e)
-                (subst (λ (u : Option ℤ). Holding Bs (vs I.slot ++ own i u) new_whole) (sym (this_slot o S.value)) own_whole);
+                (subst (λ (u : Option ℤ). Holding Bs (vs I.slot ++ own i u) new_whole) (sym (this_slot o S.value)) own_whole) (λ e. own_full o S.value (rest_empty (vs I.slot) (own i (with_value o I.slot S.value I.slot)) e));
             one_index = set_elsewhere E I.slot L.at (Some (value.Array new_one)) slot_apart ∙ ei;
             whole_index = set_elsewhere W I.slot L.at (Some (value.Array new_whole)) slot_apart ∙ wi;
             put = record {
               value = S.value;
               is = refl;
               low = S.low;
-              within = within_most (shape_of Bs) (tip i) (shape_of new_one) (base_valid I.slot slot_written).limit grow_base;
-              allowed = subst (λ (k : Class). is_no_char k S.value ≡ false) eb.2.class kept.0;
-              kept = subst (λ (k : Class). converted k S.value ≡ S.value) eb.2.class kept.1;
+              within = within_most (shape_of Bs) (tip i) (shape_of new_one) (base_bounded I.slot slot_written).1 grow_base;
+              allowed = subst (λ (k : Class). is_no_char k S.value ≡ false) HE.class kept.0;
+              kept = subst (λ (k : Class). converted k S.value ≡ S.value) HE.class kept.1;
             };
           }
+
+      -- no cells stand for a variable that has no value
+      new_as : (X : Workspace) (v : Value) (y : Array) → out-Value v ≡ Value-F.Array y → y.class ≡ L.classes I.slot → value_at X I.slot ≡ None → value_at env I.slot ≡ None → assign_value (value_at X I.slot) (own_places i) v ≡ assign_value (Some (value.Array (base I.slot))) (own_places i) v
+      new_as X v y is k none before =
+          ap (λ (u : Option Value). assign_value u (own_places i) v) none
+          ∙ assigns_new y i v is
+          ∙ ap (λ (x : Array). assign_value (Some (value.Array x)) (own_places i) v) (ap nothing k ∙ sym (base_new I.slot before))
+
+      -- what was assigned to a variable that had no value
+      abbrev Made : Workspace → Value → Type 0
+      Made E v = value_at env I.slot ≡ None → value_at E I.slot ≡ None → (y : Array) × (out-Value v ≡ Value-F.Array y) × (y.class ≡ L.classes I.slot)
+
+      step_by : (o : ℕ → Option ℤ) (E W : Workspace) (ts : List Trace) (v a : Value) → Between (mine o) E → Between (all_of o) W → value_at E L.at ≡ Some (number_of i) → value_at W L.at ≡ Some (number_of i) → Comes_to (value_in program (below program depth) f I.value) E ts (Ok v) → Comes_to (value_in program (below program depth) f I.value) W ts (Ok v)
+          → Link E I.slot (mine o I.slot) → Link W I.slot (all_of o I.slot) → Made E v → assign_value (value_at E I.slot) (own_places i) v ≡ Ok a → Stepped o E W ts
+      step_by o E W ts v a BE BW ei wi VE VW (inl e) (inl w) made A =
+          step o E W ts v a BE BW ei wi VE VW e.array w.array e.holds w.holds (ap (λ (u : Option Value). assign_value u (own_places i) v) e.there) (ap (λ (u : Option Value). assign_value u (own_places i) v) w.there) A
+      step_by o E W ts v a BE BW ei wi VE VW (inl e) (inr n) made A = absurd (e.begun (rest_empty (vs I.slot) (own i (o I.slot)) n.unwritten) n.nothing_before)
+      step_by o E W ts v a BE BW ei wi VE VW (inr n) (inl w) made A =
+          let y = made n.nothing_before n.nothing_there in
+          step o E W ts v a BE BW ei wi VE VW (base I.slot) w.array (holds_base I.slot slot_written (own i (o I.slot)) n.unwritten) w.holds (new_as E v y.0 y.1 y.2 n.nothing_there n.nothing_before) (ap (λ (u : Option Value). assign_value u (own_places i) v) w.there) A
+      step_by o E W ts v a BE BW ei wi VE VW (inr n) (inr m) made A =
+          let y = made n.nothing_before n.nothing_there in
+          step o E W ts v a BE BW ei wi VE VW (base I.slot) (base I.slot) (holds_base I.slot slot_written (own i (o I.slot)) n.unwritten) (holds_base I.slot slot_written (all_of o I.slot) m.unwritten) (new_as E v y.0 y.1 y.2 n.nothing_there n.nothing_before) (new_as W v y.0 y.1 y.2 m.nothing_there m.nothing_before) A
+
+      -- its class is that of the array at the iteration's end
+      made_by : (E : Workspace) (v a : Value) (one : Workspace) (t : ℕ) (c d : List Choice) (r : Rules) → value_at E L.at ≡ Some (number_of i) → I.slot < length E → Ends_in one → assign_value (value_at E I.slot) (own_places i) v ≡ Ok a → (block_from program (below program depth) f more finished failed (standing (slice_set E I.slot (Some a)) t c r)).ending ≡ Done one d → Made E v
+      made_by E v a one t c d r ei within last A h before none =
+          let K = keeps program q depth names i L.at L.at_is more behind (slice_set E I.slot (Some a)) one (set_elsewhere E I.slot L.at (Some a) slot_apart ∙ ei) t c d r h I.slot a (set_here E I.slot a within) in
+          let b = last I.slot slot_written before in
+          made_new v a i (L.classes I.slot) (sym (ap (λ (u : Option Value). assign_value u (own_places i) v) none) ∙ A)
+          (sym K.2 ∙ ap (λ (x : Value). class_in (out-Value x)) (some_same K.0 (value.Array b.0) (sym K.1 ∙ b.1)) ∙ class_of_array b.0 ∙ ap Some b.2)
 
       put_again : (o : ℕ → Option ℤ) (z : ℤ) (j : ℕ) → Put I.slot (Some z) → (b : Bool) → (I.slot == j) ≡ b → Put j (o j) → Put j (with_value o I.slot z j)
       put_again o z j P true e Q = subst (λ (k : ℕ). Put k (with_value o I.slot z k)) (eqb-true I.slot j e) (subst (Put I.slot) (sym (this_slot o z)) P)
@@ -352,29 +449,32 @@ module _ (program : Resolved) (q : Question) (env : Workspace) (depth : ℕ) (L 
         kept = λ j P. R.kept j (put_again o S.z j S.put (I.slot == j) refl P);
       }
 
-      by_assign : (rest : (o : ℕ → Option ℤ) (E W : Workspace) → Fixed more o E W) (o : ℕ → Option ℤ) (E W : Workspace) (ts : List Trace) (v : Value) → (BE : Between (mine o) E) (BW : Between (all_of o) W) (ei : value_at E L.at ≡ Some (number_of i)) (wi : value_at W L.at ≡ Some (number_of i)) → Comes_to (value_in program (below program depth) f I.value) E ts (Ok v) → Comes_to (value_in program (below program depth) f I.value) W ts (Ok v) → (x : Result Value ErrKind) → assign_value (value_at E I.slot) (own_places i) v ≡ x → (t : ℕ) (c d : List Choice) (r : Rules) (one : Workspace) → (block_from program (below program depth) f (s ∷ more) finished failed (standing E t c r)).ending ≡ Done one d → Ran (s ∷ more) o E W one t c r
-      by_assign rest o E W ts v BE BW ei wi VE VW (Ok a) A t c d r one h =
-          let S : Stepped o E W ts = step o E W ts v a BE BW ei wi VE VW A in
-          joined o E W one ts t c r S (rest (with_value o I.slot S.z) S.one S.whole S.here S.there S.one_index S.whole_index t c d r one (sym (ap (λ (x : Outcome). x.ending) (S.one_runs t c r)) ∙ h))
-      by_assign rest o E W ts v BE BW ei wi VE VW (Err kind) A t c d r one h =
+      by_assign : (rest : (o : ℕ → Option ℤ) (E W : Workspace) → Fixed more o E W) (o : ℕ → Option ℤ) (E W : Workspace) (ts : List Trace) (v : Value) → (BE : Between (mine o) E) (BW : Between (all_of o) W) (ei : value_at E L.at ≡ Some (number_of i)) (wi : value_at W L.at ≡ Some (number_of i)) → Comes_to (value_in program (below program depth) f I.value) E ts (Ok v) → Comes_to (value_in program (below program depth) f I.value) W ts (Ok v) → (x : Result Value ErrKind) → assign_value (value_at E I.slot) (own_places i) v ≡ x → (t : ℕ) (c d : List Choice) (r : Rules) (one : Workspace) → Ends_in one → (block_from program (below program depth) f (s ∷ more) finished failed (standing E t c r)).ending ≡ Done one d → Ran (s ∷ more) o E W one t c r
+      by_assign rest o E W ts v BE BW ei wi VE VW (Ok a) A t c d r one last h =
+          let run = run_is E t c r ∙ goes program f q.index names (below program depth) i I.name I.list I.value I.slot I.slot_is E ts v a VE
+          (own_list program f q.index names i E W (alike o E W BE BW ei wi) L.at L.at_is (value_in program (below program depth)) (frames o E W BE BW ei wi) None I.slot I.list I.own E ei) A _ failed t c r in
+          let made : Made E v = made_by E v a one t c d r ei (link_within E I.slot (mine o I.slot) (BE.held I.slot slot_written)) last A (sym (ap (λ (x : Outcome). x.ending) run) ∙ h) in
+          let S : Stepped o E W ts = step_by o E W ts v a BE BW ei wi VE VW (BE.held I.slot slot_written) (BW.held I.slot slot_written) made A in
+          joined o E W one ts t c r S (rest (with_value o I.slot S.z) S.one S.whole S.here S.there S.one_index S.whole_index t c d r one last (sym (ap (λ (x : Outcome). x.ending) (S.one_runs t c r)) ∙ h))
+      by_assign rest o E W ts v BE BW ei wi VE VW (Err kind) A t c d r one last h =
           let run = run_is E t c r ∙ fails_put program f q.index names (below program depth) i I.name I.list I.value I.slot I.slot_is E ts v kind VE
           (own_list program f q.index names i E W (alike o E W BE BW ei wi) L.at L.at_is (value_in program (below program depth)) (frames o E W BE BW ei wi) None I.slot I.list I.own E ei) A _ failed t c r in
           absurd (no_end (error_of kind I.name.place) c d one (sym (ap (λ (x : Outcome). x.ending) run) ∙ h))
 
-      by_value : (rest : (o : ℕ → Option ℤ) (E W : Workspace) → Fixed more o E W) (o : ℕ → Option ℤ) (E W : Workspace) → (BE : Between (mine o) E) (BW : Between (all_of o) W) (ei : value_at E L.at ≡ Some (number_of i)) (wi : value_at W L.at ≡ Some (number_of i)) → (P : Framed E W (value_in program (below program depth) f I.value)) (g : Result Value ScriptError) → P.gives ≡ g → (t : ℕ) (c d : List Choice) (r : Rules) (one : Workspace) → (block_from program (below program depth) f (s ∷ more) finished failed (standing E t c r)).ending ≡ Done one d → Ran (s ∷ more) o E W one t c r
-      by_value rest o E W BE BW ei wi P (Ok v) is t c d r one h =
-          by_assign rest o E W P.shown v BE BW ei wi (subst (λ (g : Result Value ScriptError). Comes_to (value_in program (below program depth) f I.value) E P.shown g) is P.here) (P.there v is) (assign_value (value_at E I.slot) (own_places i) v) refl t c d r one h
-      by_value rest o E W BE BW ei wi P (Err x) is t c d r one h =
+      by_value : (rest : (o : ℕ → Option ℤ) (E W : Workspace) → Fixed more o E W) (o : ℕ → Option ℤ) (E W : Workspace) → (BE : Between (mine o) E) (BW : Between (all_of o) W) (ei : value_at E L.at ≡ Some (number_of i)) (wi : value_at W L.at ≡ Some (number_of i)) → (P : Framed E W (value_in program (below program depth) f I.value)) (g : Result Value ScriptError) → P.gives ≡ g → (t : ℕ) (c d : List Choice) (r : Rules) (one : Workspace) → Ends_in one → (block_from program (below program depth) f (s ∷ more) finished failed (standing E t c r)).ending ≡ Done one d → Ran (s ∷ more) o E W one t c r
+      by_value rest o E W BE BW ei wi P (Ok v) is t c d r one last h =
+          by_assign rest o E W P.shown v BE BW ei wi (subst (λ (g : Result Value ScriptError). Comes_to (value_in program (below program depth) f I.value) E P.shown g) is P.here) (P.there v is) (assign_value (value_at E I.slot) (own_places i) v) refl t c d r one last h
+      by_value rest o E W BE BW ei wi P (Err x) is t c d r one last h =
           let run = run_is E t c r ∙ fails_value program f q.index names (below program depth) I.name I.list I.value E P.shown x (subst (λ (g : Result Value ScriptError). Comes_to (value_in program (below program depth) f I.value) E P.shown g) is P.here) _ failed t c r in
           absurd (no_end x c d one (sym (ap (λ (x : Outcome). x.ending) run) ∙ h))
 
       next : ((o : ℕ → Option ℤ) (E W : Workspace) → Fixed more o E W) → (o : ℕ → Option ℤ) (E W : Workspace) → Fixed (s ∷ more) o E W
-      next rest o E W BE BW ei wi t c d r one h =
+      next rest o E W BE BW ei wi t c d r one last h =
           let P : Framed E W (value_in program (below program depth) f I.value) = (frames o E W BE BW ei wi).only_reads None tt I.value I.fits in
-          by_value rest o E W BE BW ei wi P P.gives refl t c d r one h
+          by_value rest o E W BE BW ei wi P P.gives refl t c d r one last h
 
     pub iterate : (ss : List Stmt) → list_all (is_item program f q.index names) ss ≡ true → Fits_in ss → (o : ℕ → Option ℤ) (E W : Workspace) → Fixed ss o E W
-    iterate [] items fits o E W = λ BE BW ei wi t c d r one h. record {
+    iterate [] items fits o E W = λ BE BW ei wi t c d r one last h. record {
       wrote = o;
       whole = W;
       ends = λ t c r. refl;
@@ -387,7 +487,8 @@ module _ (program : Resolved) (q : Question) (env : Workspace) (depth : ℕ) (L 
     iterate (s ∷ more) items fits o E W =
         let I : Item program f q.index names s = item_of program f q.index names s (and_first (is_item program f q.index names s) (list_all (is_item program f q.index names) more) items) in
         let later : Fits_in more = λ n h. fits n (among_more program f q.index names s more I n ∙ or_second (same I.name.text n.text) (is_among (written_in more) n) h) in
-        next s more I fits (iterate more (and_second (is_item program f q.index names s) (list_all (is_item program f q.index names) more) items) later) o E W
+        let behind : list_all (is_item program f q.index names) more ≡ true = and_second (is_item program f q.index names s) (list_all (is_item program f q.index names) more) items in
+        next s more I fits behind (iterate more behind later) o E W
       where
         or_second : (a b : Bool) → b ≡ true → (a || b) ≡ true
         or_second true b h = refl

@@ -8,6 +8,10 @@ pub mod Assigning
 pub mod Own
 pub mod Slots
 pub mod Bodies
+pub mod Keeping
 pub mod Iteration
 pub mod Turns
 pub mod Orders
+pub mod Alone
+pub mod Fresh
+pub mod Single

@@ -1,6 +1,6 @@
 -- What an iteration does at its own place of a variable, and that two arrays that hold the same are the same.
-use Rattle.std.specs.Prelude.{if◌then◌else◌, ◌||◌, ◌&&◌, not, int_lt, nat_lt}
-use Rattle.std.proofs.Common.{◌≡◌, ◌∙◌, ℕ, ◌*◌, ◌≤◌, ◌==◌, ℤ, pos, List, [], ◌∷◌, length, get_or, Bool, true, false, Some, Result, Ok, Err, refl, sym, ap, subst}
+use Rattle.std.specs.Prelude.{if◌then◌else◌, ◌||◌, ◌&&◌, not, int_lt, nat_lt, slice_set, ◌-◌, ◌++◌}
+use Rattle.std.proofs.Common.{◌≡◌, ◌∙◌, ℕ, ◌+◌, ◌*◌, ◌≤◌, ◌==◌, ℤ, pos, List, [], ◌∷◌, length, get_or, Bool, true, false, Option, Some, None, Result, Ok, Err, refl, sym, ap, subst}
 use Rattle.std.proofs.lemmas.Bool.{ltb-false, le-ltb}
 use Rattle.std.proofs.lemmas.List.FromFn.{fill_by_all}
 use Rattle.pl_base.specs.declared.errors.ErrKind.{ErrKind}
@@ -14,16 +14,16 @@ use Rattle.pl_index.specs.declared.index.Index.{Index}
 use Rattle.pl_index.specs.declared.index.Index.TheVariants.{One}
 use Rattle.pl_index.specs.Places.{place_of}
 use Rattle.pl_index.specs.Choosing.{select_of, select_places, is_vector, is_single, lying, taken, row_of, column_of}
-use Rattle.pl_index.specs.Writing.{assign_of}
+use Rattle.pl_index.specs.Writing.{assign_of, nothing, stored}
 use Rattle.pl_values.specs.declared.value.Value.{Value, out-Value}
 use Rattle.pl_values.specs.declared.value.Value.TheOpen.{Value-F}
 use Rattle.pl_values.specs.declared.value.Value.TheVariants as value
-use Rattle.pl_values.specs.declared.value.Value.TheVariants.{outs-Array}
+use Rattle.pl_values.specs.declared.value.Value.TheVariants.{outs-Array, outs-Futures}
 use Rattle.pl_operators.specs.Operands.{and_then, valued, array_at}
-use Rattle.pl_operators.specs.Picking.{index_of, select_at, select_value, assign_at, assign_to_array, assign_value}
+use Rattle.pl_operators.specs.Picking.{index_of, single_index, select_at, select_value, put_call, assign_future, assign_to_futures, assign_at, assign_to_array, assign_to_none, assign_value}
 use Rattle.pl_meaning.specs.Loops.{own_places}
 use Rattle.pl_frame.proofs.Growth.{size, Grown, to_line}
-use Rattle.pl_frame.proofs.Assigning.{one_number, at_number, tip, Succeeded, succeeded, Holding, last_of, top}
+use Rattle.pl_frame.proofs.Assigning.{one_number, at_number, tip, Succeeded, succeeds, succeeded, Holding, last_of, top}
 
 -- ## The index of an iteration's own place
 
@@ -105,6 +105,81 @@ assigned_layer b i v w layer is h = absurd (cc)
 
 pub assigned_how : (b : Array) (i : ℤ) (v w : Value) → assign_value (Some (value.Array b)) (own_places i) v ≡ Ok w → Assigned b i v
 assigned_how b i v w h = assigned_layer b i v w (out-Value v) refl (sym (assign_is b i v) ∙ h)
+
+-- ## The kind that a variable keeps
+
+-- the class of an array; no other value has one
+abbrev pub class_in : Value-F Value → Option Class
+class_in (Value-F.Array a) = Some a.class
+class_in layer = None
+
+same_made : (a b : Value) → ◌≡◌ {A = Result Value ErrKind} (Ok a) (Ok b) → a ≡ b
+same_made a b e = cc
+
+pub class_of_array : (a : Array) → class_in (out-Value (value.Array a)) ≡ Some a.class
+class_of_array a = ap class_in (outs-Array a)
+
+no_class : (calls : List ℕ) (a : Value) → ◌≡◌ {A = Result Value ErrKind} (Ok (value.Futures calls)) (Ok a) → class_in (out-Value a) ≡ None
+no_class calls a h = ap (λ (v : Value). class_in (out-Value v)) (sym (same_made (value.Futures calls) a h)) ∙ ap class_in (outs-Futures calls)
+
+put_no_class : (calls : List ℕ) (call k : ℕ) (a : Value) → put_call calls call k ≡ Ok a → class_in (out-Value a) ≡ None
+put_no_class calls call k a h = by_tests (nat_lt (length calls + 1) k) (nat_lt (length calls) k) h
+  where
+    by_tests : (t u : Bool) → (if t then Err IndexRange else (if u then Ok (value.Futures (calls ++ call ∷ [])) else Ok (value.Futures (slice_set calls (k - 1) call)))) ≡ Ok a → class_in (out-Value a) ≡ None
+    by_tests true u h = absurd (cc)
+    by_tests false true h = no_class (calls ++ call ∷ []) a h
+    by_tests false false h = no_class (slice_set calls (k - 1) call) a h
+
+future_no_class : (calls more : List ℕ) (i : ℤ) (a : Value) → assign_future calls (own_places i) more ≡ Ok a → class_in (out-Value a) ≡ None
+future_no_class calls [] i a h = absurd (cc)
+future_no_class calls (call ∷ []) i a h =
+    by_place (single_index (at_number i)) (sym (ap (λ (r : Result Index ErrKind). and_then r (λ at. and_then (single_index at) (put_call calls call))) (own_index i)) ∙ h)
+  where
+    by_place : (r : Result ℕ ErrKind) → and_then r (put_call calls call) ≡ Ok a → class_in (out-Value a) ≡ None
+    by_place (Ok k) h = put_no_class calls call k a h
+    by_place (Err kind) h = absurd (cc)
+future_no_class calls (call ∷ other ∷ more) i a h = absurd (cc)
+
+array_keeps_class : (b : Array) (v a : Value) (i : ℤ) → assign_to_array (Some b) (own_places i) (out-Value v) ≡ Ok a → class_in (out-Value a) ≡ Some b.class
+array_keeps_class b v a i h =
+    let D : Assigned b i v = assigned_layer b i v a (out-Value v) refl h in
+    let S : Succeeded b D.cells i = D.how in
+    let c : Array = stored b S.shape (place_of i ∷ []) (S.value ∷ []) in
+    let made : assign_value (Some (value.Array b)) (own_places i) v ≡ Ok (value.Array c) = assigns b D.cells c i v D.is (succeeds b D.cells i S.value S.shape S.low S.line S.converts) in
+    let is : value.Array c ≡ a = same_made (value.Array c) a (sym made ∙ assign_is b i v ∙ h) in
+    ap (λ (x : Value). class_in (out-Value x)) (sym is) ∙ class_of_array c
+
+futures_keep_class : (calls : List ℕ) (layer : Value-F Value) (a : Value) (i : ℤ) → assign_to_futures calls (own_places i) layer ≡ Ok a → class_in (out-Value a) ≡ None
+futures_keep_class calls (Value-F.Futures more) a i h = future_no_class calls more i a h
+futures_keep_class calls layer a i h = absurd (cc)
+
+-- an assignment to a part keeps an array an array of its class, and no other value becomes one
+pub keeps_class : (old v a : Value) (i : ℤ) → assign_value (Some old) (own_places i) v ≡ Ok a → class_in (out-Value a) ≡ class_in (out-Value old)
+keeps_class old v a i h = by_layer (out-Value old) h
+  where
+    by_layer : (layer : Value-F Value) → assign_at layer (own_places i) v ≡ Ok a → class_in (out-Value a) ≡ class_in layer
+    by_layer (Value-F.Array b) h = array_keeps_class b v a i h
+    by_layer (Value-F.Futures calls) h = futures_keep_class calls (out-Value v) a i h
+    by_layer layer h = absurd (cc)
+
+-- where there was no value, an array is assigned to as to no cells of its class
+pub assigns_new : (y : Array) (i : ℤ) (v : Value) → out-Value v ≡ Value-F.Array y → assign_value None (own_places i) v ≡ assign_value (Some (value.Array (nothing y.class))) (own_places i) v
+assigns_new y i v is = ap (assign_to_none (own_places i)) is ∙ sym (assign_is (nothing y.class) i v ∙ ap (assign_to_array (Some (nothing y.class)) (own_places i)) is)
+
+-- what was assigned where an array came to be
+pub made_new : (v a : Value) (i : ℤ) (k : Class) → assign_value None (own_places i) v ≡ Ok a → class_in (out-Value a) ≡ Some k → (y : Array) × (out-Value v ≡ Value-F.Array y) × (y.class ≡ k)
+made_new v a i k h e = by_layer (out-Value v) refl h
+  where
+    same_class : (y : Array) → class_in (out-Value a) ≡ Some y.class → y.class ≡ k
+    same_class y g = cc
+
+    no_array : class_in (out-Value a) ≡ None → ⊥
+    no_array g = cc
+
+    by_layer : (layer : Value-F Value) → out-Value v ≡ layer → assign_to_none (own_places i) layer ≡ Ok a → (y : Array) × (out-Value v ≡ Value-F.Array y) × (y.class ≡ k)
+    by_layer (Value-F.Array y) is g = (y, is, same_class y (keeps_class (value.Array (nothing y.class)) v a i (sym (assigns_new y i v is) ∙ h) ∙ class_of_array (nothing y.class)))
+    by_layer (Value-F.Futures more) is g = absurd (no_array (future_no_class [] more i a g))
+    by_layer layer is g = absurd (cc)
 
 -- ## Arrays that hold the same
 

@@ -1,5 +1,5 @@
 -- The law of the order of a loop's iterations.
-use Rattle.std.specs.Prelude.{◌≡◌, ◌≢◌, ◌<◌, ℕ, ℤ, length, List, [], ◌∷◌, ◌++◌, true, false, Option, Some, None, Ok}
+use Rattle.std.specs.Prelude.{◌≡◌, ◌≢◌, ◌<◌, ◌⊎◌, ℕ, ℤ, length, List, [], ◌∷◌, ◌++◌, true, false, Option, Some, None, Ok}
 use Rattle.pl_array.specs.Arrays.{Array, IsValid}
 use Rattle.pl_syntax.specs.declared.expr.Name.{Name}
 use Rattle.pl_values.specs.declared.value.Value.TheVariants as value
@@ -28,9 +28,17 @@ Each P (x ∷ xs) = P x × Each P xs
 abbrev pub HasSlot : Resolved → Question → Workspace → Type 0
 HasSlot program q env = (at : ℕ) → slot_of program (body_frame q) q.index.text ≡ Some at → at < length env
 
--- each variable that the body writes has an array before the loop, and a valid one, as all arrays of a session are
-abbrev pub HasArrays : Resolved → Question → Workspace → Type 0
-HasArrays program q env = (n : Name) (slot : ℕ) → is_among (written_in q.body) n ≡ true → slot_of program (body_frame q) n.text ≡ Some slot → (a : Array) × (value_at env slot ≡ Some (value.Array a)) × IsValid a
+-- a slot has an array, and a valid one, as all arrays of a session are
+abbrev pub HasArray : Workspace → ℕ → Type 0
+HasArray env slot = (a : Array) × (value_at env slot ≡ Some (value.Array a)) × IsValid a
+
+-- a variable's slot in the workspace is still empty
+abbrev pub IsNew : Workspace → ℕ → Type 0
+IsNew env slot = (slot < length env) × (value_at env slot ≡ None)
+
+-- each variable that the body writes has an array before the loop, or is new with the loop
+abbrev pub IsReady : Resolved → Question → Workspace → Type 0
+IsReady program q env = (n : Name) (slot : ℕ) → is_among (written_in q.body) n ≡ true → slot_of program (body_frame q) n.text ≡ Some slot → HasArray env slot ⊎ IsNew env slot
 
 -- a slot of no variable that the loop touches: neither its index nor one that the body writes
 abbrev pub IsOther : Resolved → Question → ℕ → Type 0
@@ -54,7 +62,7 @@ abbrev pub OrderLaw : Type 0
 OrderLaw = (program : Resolved) (turns depth : ℕ) (q : Question) (env : Workspace) (outs : List Output) (p : List ℤ)
     → is_form program (body_frame q) q.index q.body ≡ true
     → HasSlot program q env
-    → HasArrays program q env
+    → IsReady program q env
     → all_done program turns depth q env (indices q.first q.count) ≡ true
     → come_to program turns depth q env ≡ Ok outs
     → Reorders (indices q.first q.count) p

@@ -10,9 +10,9 @@ pub fn expressions_only_read()
     ensures { FrameLaw }
 {}
 
-/// Holds of all loops of the form whose variables have arrays before the loop: the body as one ordinary loop over
-/// one whole workspace, in any order of the index's values, ends with the variables that the loop's answer has, and prints
-/// what the iterations print by themselves.
+/// Holds of all loops of the form, where each variable that the body writes has an array before the loop or is new
+/// with the loop: the body as one ordinary loop over one whole workspace, in any order of the index's values, ends with
+/// the variables that the loop's answer has, and prints what the iterations print by themselves.
 pub fn any_order_is_right()
     ensures { OrderLaw }
 {}

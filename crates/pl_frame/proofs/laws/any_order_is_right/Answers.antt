@@ -1,4 +1,4 @@
-use Rattle.pl_frame.proofs.Orders.{every_order}
+use Rattle.pl_frame.proofs.Single.{every_order}
 use Rattle.pl_frame.proofs.laws.any_order_is_right.Goals as goal
 
 pub returns : goal.returns
