@@ -8,7 +8,7 @@ ghost use Rattle.pl_meaning.specs.Promises.{Went, Halts, at};
 ghost use Rattle.pl_meaning.specs.Accesses.{take_turn as taking_turn, read as reading, write as writing, check as checking, read_part as reading_part, read_end as reading_end, write_part as writing_part, erase_part as erasing_part};
 
 use crate::failing::fail;
-use crate::storing::{assign_in, delete_in};
+use crate::storing::{assign_in, delete_in, shared};
 use crate::{decided, settled};
 use pl_base::{ErrKind, Place};
 use pl_meaning::{Ends, Halt, Memory, World};
@@ -55,6 +55,7 @@ pub fn read<W: World>(
 /// Gives a variable a value.
 #[tactic(auto, unfolding(pl_meaning::specs::Accesses::write))]
 pub fn write<W: World>(
+    alloc: Global,
     memory: &mut Memory<'_>,
     _world: &W,
     slot: u32,
@@ -63,7 +64,7 @@ pub fn write<W: World>(
     ensures ok { IfOk result (λ v. Went (writing slot value) (at memory.old (W.log _world.now)) v (at memory.new (W.log _world.now))) }
     ensures err { (x : Halt) → result ≡ Err x → Halts (writing slot value) (at memory.old (W.log _world.now)) x (at memory.new (W.log _world.now)) }
 {
-    memory.env.set(slot, value)?;
+    memory.env.set(slot, shared(alloc, value))?;
     Ok(())
 }
 

@@ -12,7 +12,7 @@ use std::alloc::Global;
 
 /// Assigns to a part of a slot's value. After a refusal the workspace is as it was.
 #[tactic(auto, using(crate::proofs::Slots::stores))]
-pub(crate) fn assign_in(
+pub fn assign_in(
     alloc: Global,
     env: &mut Env<'_>,
     slot: u32,
@@ -23,7 +23,7 @@ pub(crate) fn assign_in(
 {
     let mut held = env.take(alloc, slot)?;
     let answer = assign_value(alloc, &mut held, list, v);
-    put_back(env, slot, held)?;
+    put_back(alloc, env, slot, held)?;
     answer
 }
 
@@ -39,7 +39,7 @@ pub(crate) fn delete_in(
 {
     let mut held = env.take(alloc, slot)?;
     let answer = delete_held(alloc, &mut held, list);
-    put_back(env, slot, held)?;
+    put_back(alloc, env, slot, held)?;
     answer
 }
 
@@ -58,12 +58,27 @@ fn delete_held(
     }
 }
 
+/// The same value as a variable holds it: a copy of an array takes no memory from now on.
+pub fn shared(alloc: Global, value: Value) -> Value
+    ensures { result ≡ value }
+{
+    match value {
+        Value::Array(a) => Value::Array(a.share(alloc)),
+        other => other,
+    }
+}
+
 /// Gives a slot what it is to hold, or empties it.
-fn put_back(env: &mut Env<'_>, slot: u32, held: Option<Value>) -> Result<(), NoMemory>
+fn put_back(
+    alloc: Global,
+    env: &mut Env<'_>,
+    slot: u32,
+    held: Option<Value>,
+) -> Result<(), NoMemory>
     ensures { OnOk result (env.new ≡ slice_set env.old slot held) }
 {
     match held {
-        Some(value) => env.set(slot, value),
+        Some(value) => env.set(slot, shared(alloc, value)),
         None => {
             env.clear(slot);
             Ok(())

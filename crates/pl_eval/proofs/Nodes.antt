@@ -1,6 +1,6 @@
 -- What each node of a tree comes to.
 use Rattle.std.specs.Prelude.{nat_lt, ◌||◌, if◌then◌else◌}
-use Rattle.std.proofs.Common.{◌≡◌, ◌≤◌, Bool, false, ℕ, List, length, slice_get, Option, Some, None, refl, ap, ◌∙◌}
+use Rattle.std.proofs.Common.{◌≡◌, ◌≤◌, ◌⊎◌, inl, inr, Bool, false, ℕ, List, length, slice_get, Option, Some, None, refl, ap, ◌∙◌}
 use Rattle.std.proofs.lemmas.Option.{slice_get_past}
 use Rattle.pl_base.specs.declared.errors.Place.{Place}
 use Rattle.pl_base.specs.declared.errors.ErrKind.TheVariants.{NoValue, ArgCount}
@@ -187,3 +187,43 @@ call_missing program l place i nout vs past = ap (entered program l place i nout
 
 pub call_counted : (program : Resolved) (l : Option Level) (f : Frame) (place : Place) (g : Function) (vs : List Value) → (nat_lt (length g.params) (length vs) || nat_lt (length g.outs) f.wanted) ≡ false → counted_call program l f place g vs ≡ begun program l f place g vs
 call_counted program l f place g vs is = ap (λ (b : Bool). if b then fail ArgCount place else begun program l f place g vs) is
+
+-- an expression that goes down by a level
+pub value_nested : (program : Resolved) (l : Option Level) (f : Frame) (e : Expr) →
+    (((n : Name) × (es : List Expr) × (e.kind ≡ expr.Apply n es)) ⊎ (
+    ((n : Name) × (b : Expr) × (es : Option (List Expr)) × (e.kind ≡ expr.Brace n b es)) ⊎ (
+    ((op : Un) × (a : Expr) × (e.kind ≡ expr.Unary op a)) ⊎ (
+    ((op : Bin) × (a : Expr) × (b : Expr) × (e.kind ≡ expr.Binary op a b)) ⊎ (
+    ((a : Expr) × (w : Option Expr) × (b : Expr) × (e.kind ≡ expr.Range a w b)) ⊎ (
+    ((ess : List (List Expr)) × (e.kind ≡ expr.Rows ess)) ⊎ (
+    ((n : Name) × (e.kind ≡ expr.Func n)) ⊎ (
+    ((e.kind ≡ expr.End)) ⊎ (
+    ((a : Expr) × (e.kind ≡ expr.StateOf a)))))))))))
+    → value_in program l f e ≡ enter l e.place (λ d. compound program d f e)
+value_nested program l f e (inl (n, es, is)) = value_apply program l f e n es is
+value_nested program l f e (inr (inl (n, b, es, is))) = value_brace program l f e n b es is
+value_nested program l f e (inr (inr (inl (op, a, is)))) = value_unary program l f e op a is
+value_nested program l f e (inr (inr (inr (inl (op, a, b, is))))) = value_binary program l f e op a b is
+value_nested program l f e (inr (inr (inr (inr (inl (a, w, b, is)))))) = value_range program l f e a w b is
+value_nested program l f e (inr (inr (inr (inr (inr (inl (ess, is))))))) = value_rows program l f e ess is
+value_nested program l f e (inr (inr (inr (inr (inr (inr (inl (n, is)))))))) = value_func program l f e n is
+value_nested program l f e (inr (inr (inr (inr (inr (inr (inr (inl is)))))))) = value_end program l f e is
+value_nested program l f e (inr (inr (inr (inr (inr (inr (inr (inr (a, is))))))))) = value_state_of program l f e a is
+
+-- a statement that goes down by a level
+pub stmt_nested : (program : Resolved) (l : Option Level) (f : Frame) (s : Stmt) →
+    (((arms : List Arm) × (other : List Stmt) × (s.kind ≡ stmt.If arms other)) ⊎ (
+    ((e : Expr) × (body : List Stmt) × (s.kind ≡ stmt.While e body)) ⊎ (
+    ((n : Name) × (e : Expr) × (body : List Stmt) × (s.kind ≡ stmt.For n e body)) ⊎ (
+    ((e : Expr) × (arms : List Arm) × (other : List Stmt) × (s.kind ≡ stmt.Switch e arms other)) ⊎ (
+    ((body : List Stmt) × (handler : List Stmt) × (s.kind ≡ stmt.Try body handler)) ⊎ (
+    ((n : Name) × (e : Expr) × (most : Option Expr) × (body : List Stmt) × (s.kind ≡ stmt.Parfor n e most body)) ⊎ (
+    ((n : Option Expr) × (body : List Stmt) × (s.kind ≡ stmt.Spmd n body)))))))))
+    → stmt_in program l f s ≡ enter l s.place (λ d. compound_stmt program d f s)
+stmt_nested program l f s (inl (arms, other, is)) = stmt_if program l f s arms other is
+stmt_nested program l f s (inr (inl (e, body, is))) = stmt_while program l f s e body is
+stmt_nested program l f s (inr (inr (inl (n, e, body, is)))) = stmt_for program l f s n e body is
+stmt_nested program l f s (inr (inr (inr (inl (e, arms, other, is))))) = stmt_switch program l f s e arms other is
+stmt_nested program l f s (inr (inr (inr (inr (inl (body, handler, is)))))) = stmt_try program l f s body handler is
+stmt_nested program l f s (inr (inr (inr (inr (inr (inl (n, e, most, body, is))))))) = stmt_parfor program l f s n e most body is
+stmt_nested program l f s (inr (inr (inr (inr (inr (inr (n, body, is))))))) = stmt_spmd program l f s n body is

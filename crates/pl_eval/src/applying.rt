@@ -10,10 +10,9 @@ ghost use Rattle.pl_meaning.specs.Parts.{below, level_at, value_in, index_or_cal
 use crate::calling::{applied, first_of};
 use crate::expressions::value;
 use crate::lists::places;
-use crate::naming::slot_of;
 use pl_access::{check, fail, read_part, settled};
 use pl_base::{ErrKind, Place};
-use pl_meaning::{Frame, Halt, Memory, World};
+use pl_meaning::{Frame, Halt, Memory, World, slot_of};
 use pl_operators::range;
 use pl_resolve::Resolved;
 use pl_syntax::{Expr, Name};

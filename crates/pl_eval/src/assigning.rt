@@ -7,12 +7,11 @@ ghost use Rattle.pl_meaning.specs.Parts.{below, assignment as assignment_part, a
 
 use crate::expressions::value;
 use crate::lists::places;
-use crate::naming::slot_of;
 use crate::outputs::listed;
 use crate::showing::{show_target, show_targets};
 use pl_access::{fail, write, write_part};
 use pl_base::{ErrKind, Place};
-use pl_meaning::{Exit, Frame, Halt, Memory, World};
+use pl_meaning::{Exit, Frame, Halt, Memory, World, slot_of};
 use pl_resolve::Resolved;
 use pl_syntax::{Expr, Name, Target};
 use pl_values::Value;
@@ -100,7 +99,7 @@ fn assign_whole<W: World>(
 {
     match slot {
         None => Err(fail(alloc, ErrKind::NoValue, name.place)),
-        Some(slot) => write(memory, world, slot, v),
+        Some(slot) => write(alloc, memory, world, slot, v),
     }
 }
 

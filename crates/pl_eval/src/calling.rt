@@ -11,12 +11,11 @@ ghost use Rattle.pl_values.specs.declared.value.Value.{out-Value};
 
 use crate::lists::values;
 use crate::local::call;
-use crate::naming::function_of;
 use crate::running::descend;
 use pl_access::fail;
 use pl_base::{ErrKind, Place};
 use pl_library::library;
-use pl_meaning::{Frame, Halt, Known, Memory, World};
+use pl_meaning::{Frame, Halt, Known, Memory, World, function_of};
 use pl_resolve::{Resolved, table_name};
 use pl_syntax::{Expr, Name};
 use pl_values::Value;

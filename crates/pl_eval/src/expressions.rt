@@ -10,12 +10,11 @@ ghost use Rattle.pl_meaning.specs.Parts.{below, level_at, enter, value_in, compo
 
 use crate::applying::{application, span};
 use crate::calling::{called, first_of};
-use crate::naming::slot_of;
 use crate::operators::{bracket, end_word, operation, unary};
 use crate::running::descend;
 use pl_access::{fail, read};
 use pl_base::{ErrKind, Place};
-use pl_meaning::{Frame, Halt, Memory, World};
+use pl_meaning::{Frame, Halt, Memory, World, slot_of};
 use pl_operators::{chars, number};
 use pl_resolve::{Resolved, function_number};
 use pl_syntax::{Expr, ExprKind, Name};
@@ -25,7 +24,7 @@ use std::alloc::Global;
 /// The value of an expression.
 #[cycle(running)]
 #[tactic(auto, using(pl_meaning::proofs::Cut::cut), unfolding(pl_meaning::specs::Parts::value_in))]
-pub(crate) fn value<W: World>(
+pub fn value<W: World>(
     alloc: Global,
     program: &Resolved,
     levels: u32,
@@ -45,15 +44,15 @@ pub(crate) fn value<W: World>(
             alloc, program, levels, frame, memory, world, e.place, name,
         ),
         ExprKind::Colon => Err(fail(alloc, ErrKind::BadKind, e.place)),
-        ExprKind::Apply(_, _) => nested(alloc, program, levels, frame, memory, world, e),
-        ExprKind::Brace(_, _, _) => nested(alloc, program, levels, frame, memory, world, e),
-        ExprKind::Unary(_, _) => nested(alloc, program, levels, frame, memory, world, e),
-        ExprKind::Binary(_, _, _) => nested(alloc, program, levels, frame, memory, world, e),
-        ExprKind::Range(_, _, _) => nested(alloc, program, levels, frame, memory, world, e),
-        ExprKind::Rows(_) => nested(alloc, program, levels, frame, memory, world, e),
-        ExprKind::Func(_) => nested(alloc, program, levels, frame, memory, world, e),
-        ExprKind::End => nested(alloc, program, levels, frame, memory, world, e),
-        ExprKind::StateOf(_) => nested(alloc, program, levels, frame, memory, world, e),
+        ExprKind::Apply(_, _)
+        | ExprKind::Brace(_, _, _)
+        | ExprKind::Unary(_, _)
+        | ExprKind::Binary(_, _, _)
+        | ExprKind::Range(_, _, _)
+        | ExprKind::Rows(_)
+        | ExprKind::Func(_)
+        | ExprKind::End
+        | ExprKind::StateOf(_) => nested(alloc, program, levels, frame, memory, world, e),
     }
 }
 
@@ -143,12 +142,12 @@ fn compound<W: World>(
         ),
         ExprKind::Func(name) => handle(alloc, program, name),
         ExprKind::End => end_word(alloc, frame, memory, world, e.place),
-        ExprKind::Brace(_, _, _) => Err(fail(alloc, ErrKind::WrongPlace, e.place)),
-        ExprKind::StateOf(_) => Err(fail(alloc, ErrKind::WrongPlace, e.place)),
-        ExprKind::Number(_) => Err(fail(alloc, ErrKind::WrongPlace, e.place)),
-        ExprKind::Chars(_) => Err(fail(alloc, ErrKind::WrongPlace, e.place)),
-        ExprKind::Var(_) => Err(fail(alloc, ErrKind::WrongPlace, e.place)),
-        ExprKind::Colon => Err(fail(alloc, ErrKind::WrongPlace, e.place)),
+        ExprKind::Brace(_, _, _)
+        | ExprKind::StateOf(_)
+        | ExprKind::Number(_)
+        | ExprKind::Chars(_)
+        | ExprKind::Var(_)
+        | ExprKind::Colon => Err(fail(alloc, ErrKind::WrongPlace, e.place)),
     }
 }
 

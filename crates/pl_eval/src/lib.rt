@@ -21,6 +21,7 @@ mod sharing;
 mod showing;
 mod statements;
 
+pub use expressions::value;
 pub use pl_meaning::{Ended, World};
 pub use pl_resolve::Resolved;
 pub use running::{run, run_body};

@@ -9,12 +9,12 @@ ghost use Rattle.pl_eval.specs.Pieces.{begun, counted_call, entered_body};
 ghost use Rattle.pl_meaning.specs.Names.{names_in};
 ghost use Rattle.pl_meaning.specs.Parts.{below, level_at, call_in, body_of, frame_of as frame_part, results as results_part, results_from as results_from_part, entry_of as entry_part, bound as bound_part, bound_in, count_in as count_part, counted_in, output as output_part, first_offered, ran};
 
-use crate::naming::{count_value, slot_of};
+use crate::naming::count_value;
 use crate::running::descend;
 use crate::statements::block;
-use pl_access::{fail, take_turn};
+use pl_access::{fail, shared, take_turn};
 use pl_base::{ErrKind, Place, Text};
-use pl_meaning::{Frame, Halt, Memory, World};
+use pl_meaning::{Frame, Halt, Memory, World, slot_of};
 use pl_resolve::Resolved;
 use pl_syntax::{Function, Name};
 use pl_values::{Env, Value};
@@ -295,7 +295,7 @@ fn entry_of<'b>(
 {
     let mut env = empty(alloc, program, frame)?;
     counts(alloc, program, frame, &mut env)?;
-    arguments(program, frame, &mut env, g.params.items(), given)?;
+    arguments(alloc, program, frame, &mut env, g.params.items(), given)?;
     Ok(env)
 }
 
@@ -348,6 +348,7 @@ fn count_in(
 
 /// The arguments in the slots of the parameters.
 fn arguments(
+    alloc: Global,
     program: &Resolved,
     frame: Frame,
     env: &mut Env<'_>,
@@ -362,13 +363,14 @@ fn arguments(
         let Some(v) = left.next() else {
             return Ok(());
         };
-        bind(program, frame, env, parameter, v)?;
+        bind(alloc, program, frame, env, parameter, v)?;
     }
     Ok(())
 }
 
 /// An argument in the slot of its parameter; one without a name is let go.
 fn bind(
+    alloc: Global,
     program: &Resolved,
     frame: Frame,
     env: &mut Env<'_>,
@@ -384,6 +386,6 @@ fn bind(
     let Some(slot) = slot_of(program, frame, &name.text) else {
         return Ok(());
     };
-    env.set(slot, v)?;
+    env.set(slot, shared(alloc, v))?;
     Ok(())
 }

@@ -7,12 +7,11 @@ ghost use Rattle.pl_meaning.specs.Parts.{below, level_at, looped, columned, coun
 
 use crate::branching::test;
 use crate::expressions::value;
-use crate::naming::slot_of;
 use crate::statements::block;
 use pl_access::{array_at, fail, take_turn, write};
 use pl_array::Arr;
 use pl_base::{ErrKind, Place};
-use pl_meaning::{Exit, Frame, Halt, Memory, World};
+use pl_meaning::{Exit, Frame, Halt, Memory, World, slot_of};
 use pl_operators::column;
 use pl_resolve::Resolved;
 use pl_syntax::{Expr, Name, Stmt};
@@ -136,7 +135,7 @@ fn each_column<W: World>(
     for j in 0..a.shape().cols {
         take_turn(alloc, memory, world, place)?;
         let column = column(alloc, a, j)?;
-        write(memory, world, slot, Value::Array(column))?;
+        write(alloc, memory, world, slot, Value::Array(column))?;
         match block(alloc, program, levels, frame, memory, world, body)? {
             Exit::Onward | Exit::Continued => {}
             Exit::Broke => return Ok(Exit::Onward),

@@ -4,30 +4,13 @@ ghost use Rattle.std.specs.Prelude.{◌≡◌, List, pos};
 ghost use Rattle.std.specs.Option.{option_copied};
 ghost use Rattle.pl_base.specs.Numbers.{clamp};
 ghost use Rattle.pl_operators.specs.Bracketing.{number_of};
-ghost use Rattle.pl_meaning.specs.Names.{slot_of as slot_named, function_of as function_named, callee_of as callee_named, arguments_of as arguments_named};
+ghost use Rattle.pl_meaning.specs.Names.{callee_of as callee_named, arguments_of as arguments_named};
 
-use pl_base::Text;
-use pl_meaning::Frame;
+use pl_meaning::{Frame, slot_of};
 use pl_operators::number;
 use pl_resolve::Resolved;
 use pl_syntax::{Expr, ExprKind, Name};
 use pl_values::Value;
-
-/// The slot of a variable of the frame's scope.
-pub(crate) fn slot_of(program: &Resolved, frame: Frame, name: &Text) -> Option<u32>
-    ensures { result ≡ slot_named program.now frame name.now }
-{
-    let scope = program.scopes.items().get(frame.scope)?;
-    scope.slot(name)
-}
-
-/// The number of a local function.
-pub(crate) fn function_of(program: &Resolved, name: &Text) -> Option<usize>
-    ensures { result ≡ function_named program.now name.now }
-{
-    let functions = program.program.functions.as_slice();
-    functions.iter().position(|g| name == &g.name.text)
-}
 
 /// The name of the function that an expression calls, if it is a call.
 pub(crate) fn callee_of<'e>(program: &Resolved, frame: Frame, e: &'e Expr) -> Option<&'e Name>

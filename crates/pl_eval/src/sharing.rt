@@ -9,11 +9,10 @@ ghost use Rattle.pl_meaning.specs.Parts.{below, level_at, value_in, ends_in, div
 ghost use Rattle.pl_eval.specs.Pieces.{range_ends as range_ends_part, inner_ends as inner_ends_part, both_ends as both_ends_part, written_part};
 
 use crate::expressions::value;
-use crate::naming::slot_of;
 use crate::running::descend;
 use pl_access::{array_at, ask, bounds_at, fail, take_turn, tell, write};
 use pl_base::{ErrKind, Place};
-use pl_meaning::{Answer, Event, Exit, Frame, Halt, Loop, Memory, Output, World};
+use pl_meaning::{Answer, Event, Exit, Frame, Halt, Loop, Memory, Output, World, slot_of};
 use pl_resolve::Resolved;
 use pl_syntax::{Expr, ExprKind, Name, Stmt, StmtKind, Target};
 use pl_values::Value;
@@ -192,7 +191,7 @@ fn share<W: World>(
         count: bounds.count,
     };
     let answer = ask(memory, world, question)?;
-    take_answer(memory, world, answer)
+    take_answer(alloc, memory, world, answer)
 }
 
 /// Each variable that the body writes has an array, or no value.
@@ -251,6 +250,7 @@ fn lay<W: World>(
 
 /// What the answer to a loop does: its text is printed, and its variables get their values; or it is an error.
 fn take_answer<W: World>(
+    alloc: Global,
     memory: &mut Memory<'_>,
     world: &mut W,
     answer: Answer,
@@ -263,7 +263,7 @@ fn take_answer<W: World>(
         Answer::Raised(error) => Err(Halt::Raise(error)),
         Answer::Looped(looped) => {
             tell(memory, world, Event::Print(looped.text))?;
-            take_outputs(memory, world, looped.outputs.into_vec())?;
+            take_outputs(alloc, memory, world, looped.outputs.into_vec())?;
             Ok(Exit::Onward)
         }
     }
@@ -271,6 +271,7 @@ fn take_answer<W: World>(
 
 /// The variables of a loop that is done get their values.
 fn take_outputs<W: World>(
+    alloc: Global,
     memory: &mut Memory<'_>,
     world: &W,
     outputs: Vec<Output>,
@@ -279,7 +280,7 @@ fn take_outputs<W: World>(
     ensures err { (x : Halt) → result ≡ Err x → Halts (taken outputs.items) (at memory.old (W.log world.now)) x (at memory.new (W.log world.now)) }
 {
     for output in outputs {
-        write(memory, world, output.slot, output.value)?;
+        write(alloc, memory, world, output.slot, output.value)?;
     }
     Ok(())
 }

@@ -12,10 +12,9 @@ ghost use Rattle.pl_meaning.specs.declared.frame.Exit.{Exit as Leaving};
 ghost use Rattle.pl_meaning.specs.Names.{slot_of as slot_named};
 ghost use Rattle.pl_meaning.specs.Parts.{shown as shown_part, shown_first, shown_slot, shown_target_of, shown_target as shown_target_part, shown_targets as shown_targets_part, name_of, title as title_part};
 
-use crate::naming::slot_of;
 use pl_access::{fail, read, tell};
 use pl_base::{ErrKind, Text};
-use pl_meaning::{Event, Exit, Frame, Halt, Memory, World};
+use pl_meaning::{Event, Exit, Frame, Halt, Memory, World, slot_of};
 use pl_operators::shown;
 use pl_resolve::Resolved;
 use pl_syntax::{Expr, ExprKind, Name, Target};

@@ -9,14 +9,13 @@ use crate::assigning::{assignment, list_assignment};
 use crate::branching::{attempt, branches, cases};
 use crate::lists::places;
 use crate::loops::{count, repeat};
-use crate::naming::slot_of;
 use crate::outputs::outputs;
 use crate::running::descend;
 use crate::sharing::divide;
 use crate::showing::show_first;
 use pl_access::{check, erase_part, fail};
 use pl_base::ErrKind;
-use pl_meaning::{Exit, Frame, Halt, Memory, World};
+use pl_meaning::{Exit, Frame, Halt, Memory, World, slot_of};
 use pl_resolve::Resolved;
 use pl_syntax::{Expr, Name, Stmt, StmtKind};
 use sqlite_items::Items;
@@ -95,13 +94,13 @@ fn statement<W: World>(
         StmtKind::Break => Ok(Exit::Broke),
         StmtKind::Continue => Ok(Exit::Continued),
         StmtKind::Return => Ok(Exit::Returned),
-        StmtKind::If(_, _) => nested(alloc, program, levels, frame, memory, world, s),
-        StmtKind::While(_, _) => nested(alloc, program, levels, frame, memory, world, s),
-        StmtKind::For(_, _, _) => nested(alloc, program, levels, frame, memory, world, s),
-        StmtKind::Switch(_, _, _) => nested(alloc, program, levels, frame, memory, world, s),
-        StmtKind::Try(_, _) => nested(alloc, program, levels, frame, memory, world, s),
-        StmtKind::Parfor(_, _, _, _) => nested(alloc, program, levels, frame, memory, world, s),
-        StmtKind::Spmd(_, _) => nested(alloc, program, levels, frame, memory, world, s),
+        StmtKind::If(_, _)
+        | StmtKind::While(_, _)
+        | StmtKind::For(_, _, _)
+        | StmtKind::Switch(_, _, _)
+        | StmtKind::Try(_, _)
+        | StmtKind::Parfor(_, _, _, _)
+        | StmtKind::Spmd(_, _) => nested(alloc, program, levels, frame, memory, world, s),
     }
 }
 
@@ -176,14 +175,14 @@ fn compound<W: World>(
         StmtKind::Parfor(index, range, most, body) => divide(
             alloc, program, levels, frame, memory, world, s.place, index, range, most, body,
         ),
-        StmtKind::Spmd(_, _) => Err(fail(alloc, ErrKind::WrongPlace, s.place)),
-        StmtKind::Eval(_) => Err(fail(alloc, ErrKind::WrongPlace, s.place)),
-        StmtKind::Assign(_, _) => Err(fail(alloc, ErrKind::WrongPlace, s.place)),
-        StmtKind::AssignList(_, _) => Err(fail(alloc, ErrKind::WrongPlace, s.place)),
-        StmtKind::Delete(_, _) => Err(fail(alloc, ErrKind::WrongPlace, s.place)),
-        StmtKind::Break => Err(fail(alloc, ErrKind::WrongPlace, s.place)),
-        StmtKind::Continue => Err(fail(alloc, ErrKind::WrongPlace, s.place)),
-        StmtKind::Return => Err(fail(alloc, ErrKind::WrongPlace, s.place)),
+        StmtKind::Spmd(_, _)
+        | StmtKind::Eval(_)
+        | StmtKind::Assign(_, _)
+        | StmtKind::AssignList(_, _)
+        | StmtKind::Delete(_, _)
+        | StmtKind::Break
+        | StmtKind::Continue
+        | StmtKind::Return => Err(fail(alloc, ErrKind::WrongPlace, s.place)),
     }
 }
 

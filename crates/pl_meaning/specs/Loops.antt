@@ -25,6 +25,7 @@ use Rattle.pl_resolve.specs.declared.resolved.Resolved.{Resolved}
 use Rattle.pl_meaning.specs.declared.event.Answer.{Answer}
 use Rattle.pl_meaning.specs.declared.event.Answer.TheVariants as answer
 use Rattle.pl_meaning.specs.declared.event.Output.{Output}
+use Rattle.pl_meaning.specs.declared.event.Clash.{Clash}
 use Rattle.pl_meaning.specs.declared.frame.Frame.{Frame}
 use Rattle.pl_meaning.specs.Logs.{Workspace, Trace, Byte, Question, Rules}
 use Rattle.pl_meaning.specs.Names.{names_in, slot_of}
@@ -124,10 +125,47 @@ slots_from program f done (n ∷ more) = slots_from program f (with_one done (sl
 abbrev pub written_slots : Resolved → Question → List ℕ
 written_slots program q = slots_from program (body_frame q) [] (written_in q.body)
 
--- a variable of which the writes don't go together, and why
-pub record Clash : Type 0 where
-  pub slot : ℕ
-  pub kind : ErrKind
+-- a variable that came to this, before others: all of them, or the first of which the writes don't go together
+abbrev pub output_of : ℕ → Result (Option Value) ErrKind → Result (List Output) Clash → Result (List Output) Clash
+output_of slot (Err kind) more = Err (record { slot = slot; kind = kind })
+output_of slot (Ok None) more = more
+output_of slot (Ok (Some v)) (Err other) = Err other
+output_of slot (Ok (Some v)) (Ok outs) = Ok (record { slot = slot; value = v } ∷ outs)
+
+-- ## The answer under a choice
+
+-- a bracketing of all iterations: runs that aren't empty, of pieces that aren't
+abbrev pub is_run : List ℕ → Bool
+is_run [] = false
+is_run (n ∷ ns) = list_all (λ m. nat_le 1 m) (n ∷ ns)
+
+abbrev pub counted_in : List (List ℕ) → ℕ
+counted_in runs = fold (λ n run. fold (λ m k. m + k) n run) 0 runs
+
+abbrev pub covers : List (List ℕ) → ℕ → Bool
+covers runs count = list_all is_run runs && counted_in runs == count
+
+-- a value of the loop's index
+abbrev pub is_index : Question → ℤ → Bool
+is_index q i = not (int_lt i q.first) && int_lt i (q.first +ℤ pos q.count)
+
+-- an error of an iteration, headed by its value of the index
+abbrev pub headed : ℤ → ScriptError → ScriptError
+headed i e = record e { text = codes "iteration " ++ signed_decimal i ++ codes ": " ++ e.text }
+
+-- the error of writes that don't go together
+abbrev pub name_at : Resolved → Question → ℕ → List ℕ
+name_at program q slot = unwrap_or (slice_get (names_in program q.scope) slot) []
+
+abbrev pub clash_error : Resolved → Question → Clash → ScriptError
+clash_error program q c = record { kind = c.kind; place = q.place; text = codes "variable " ++ name_at program q c.slot ++ codes ": " ++ message_of c.kind }
+
+-- the answer by an iteration that raised, if it did
+abbrev pub by_fail : ℤ → Ending → Option Answer
+by_fail i (Raised e left) = Some (answer.Raised (headed i e))
+by_fail i ending = None
+
+-- ## A loop
 
 module _ (program : Resolved) (turns depth : ℕ) (q : Question) (env : Workspace) where
   -- how an iteration ends
@@ -151,43 +189,9 @@ module _ (program : Resolved) (turns depth : ℕ) (q : Question) (env : Workspac
   abbrev pub after : List ℤ → ℕ → Result (Option Value) ErrKind
   after is slot = merged (value_at env slot) (writes slot is)
 
-  -- all of them, or the first of which the writes don't go together
-  abbrev pub output_of : ℕ → Result (Option Value) ErrKind → Result (List Output) Clash → Result (List Output) Clash
-  output_of slot (Err kind) more = Err (record { slot = slot; kind = kind })
-  output_of slot (Ok None) more = more
-  output_of slot (Ok (Some v)) (Err other) = Err other
-  output_of slot (Ok (Some v)) (Ok outs) = Ok (record { slot = slot; value = v } ∷ outs)
-
   abbrev pub outputs : List ℤ → List ℕ → Result (List Output) Clash
   outputs is [] = Ok []
   outputs is (slot ∷ slots) = output_of slot (after is slot) (outputs is slots)
-
-  -- ## The answer under a choice
-
-  -- a bracketing of all iterations: runs that aren't empty, of pieces that aren't
-  abbrev pub is_run : List ℕ → Bool
-  is_run [] = false
-  is_run (n ∷ ns) = list_all (λ m. nat_le 1 m) (n ∷ ns)
-
-  abbrev pub counted_in : List (List ℕ) → ℕ
-  counted_in runs = fold (λ n run. fold (λ m k. m + k) n run) 0 runs
-
-  abbrev pub covers : List (List ℕ) → ℕ → Bool
-  covers runs count = list_all is_run runs && counted_in runs == count
-
-  abbrev pub is_index : ℤ → Bool
-  is_index i = not (int_lt i q.first) && int_lt i (q.first +ℤ pos q.count)
-
-  -- an error of an iteration, headed by its value of the index
-  abbrev pub headed : ℤ → ScriptError → ScriptError
-  headed i e = record e { text = codes "iteration " ++ signed_decimal i ++ codes ": " ++ e.text }
-
-  -- the error of writes that don't go together
-  abbrev pub name_at : ℕ → List ℕ
-  name_at slot = unwrap_or (slice_get (names_in program q.scope) slot) []
-
-  abbrev pub clash_error : Clash → ScriptError
-  clash_error c = record { kind = c.kind; place = q.place; text = codes "variable " ++ name_at c.slot ++ codes ": " ++ message_of c.kind }
 
   abbrev pub by_runs : Result (List Output) Clash → Option Answer
   by_runs (Ok outs) = Some (answer.Looped (record { text = texts (indices q.first q.count); outputs = outs }))
@@ -195,11 +199,7 @@ module _ (program : Resolved) (turns depth : ℕ) (q : Question) (env : Workspac
 
   abbrev pub by_merge : List ℕ → Result (List Output) Clash → Option Answer
   by_merge name (Ok outs) = None
-  by_merge name (Err c) = if pointwise nat_eq name (name_at c.slot) then Some (answer.Raised (clash_error c)) else None
-
-  abbrev pub by_fail : ℤ → Ending → Option Answer
-  by_fail i (Raised e left) = Some (answer.Raised (headed i e))
-  by_fail i ending = None
+  by_merge name (Err c) = if pointwise nat_eq name (name_at program q c.slot) then Some (answer.Raised (clash_error program q c)) else None
 
   abbrev pub come_to : Result (List Output) Clash
   come_to = outputs (indices q.first q.count) (written_slots program q)
@@ -208,7 +208,7 @@ module _ (program : Resolved) (turns depth : ℕ) (q : Question) (env : Workspac
   -- where none does, the first variable whose writes don't go together
   abbrev pub loop_answer : Choice → Option Answer
   loop_answer (choice.Runs b) = if covers b.runs q.count && all_done (indices q.first q.count) then by_runs come_to else None
-  loop_answer (choice.Fail i) = if is_index i then by_fail i (Iter program turns depth q env i).ending else None
+  loop_answer (choice.Fail i) = if is_index q i then by_fail i (Iter program turns depth q env i).ending else None
   loop_answer (choice.Merge name) = if all_done (indices q.first q.count) then by_merge name come_to else None
   loop_answer c = None
 

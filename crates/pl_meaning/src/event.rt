@@ -1,6 +1,6 @@
 //! What a run tells, what it asks, and what it is answered.
 
-use pl_base::{Place, ScriptError, Seq, Text};
+use pl_base::{ErrKind, Place, ScriptError, Seq, Text};
 use pl_syntax::{Name, Stmt};
 use pl_values::Value;
 use sqlite_items::Items;
@@ -53,4 +53,11 @@ pub struct Looped {
 pub struct Output {
     pub slot: u32,
     pub value: Value,
+}
+
+/// A variable of which the writes of a loop's iterations don't go together, and why.
+#[derive(Debug, Drop)]
+pub struct Clash {
+    pub slot: u32,
+    pub kind: ErrKind,
 }

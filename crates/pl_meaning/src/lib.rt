@@ -17,12 +17,14 @@ mod frame;
 mod halt;
 mod known;
 mod memory;
+mod naming;
 mod world;
 
 pub use ended::Ended;
-pub use event::{Answer, Bounds, Event, Loop, Looped, Output};
+pub use event::{Answer, Bounds, Clash, Event, Loop, Looped, Output};
 pub use frame::{Ends, Exit, Frame};
 pub use halt::{Halt, Stop};
 pub use known::{Known, Own};
 pub use memory::Memory;
+pub use naming::{function_of, slot_of};
 pub use world::World;

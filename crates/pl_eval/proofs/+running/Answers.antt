@@ -3,7 +3,7 @@ use Rattle.pl_meaning.specs.declared.halt.Halt.{Halt}
 use Rattle.pl_meaning.specs.Promises.{view, at, from}
 use Rattle.pl_meaning.specs.Parts.{below, level_at, value_in, outputs_in, listed_in, evaluated, shown_first, title, after_pass, columns_from, passes, looped, first_of, applied, deletion, entry_of, ran, argument_of, values_from, given_of, elements_from, elements as elements_part, rows_from, tested, stmt_in, sequel, block_from, values as values_part, rows as rows_part, block_in, called}
 use Rattle.pl_eval.proofs.Chains.{after_halts, after_went, comes_after, comes_cut, comes_halts, comes_item, comes_pass, first_halts, goes_on, inside_halts, inside_went, keeps_on, ok_more, same_err, same_halt}
-use Rattle.pl_eval.proofs.Nodes.{call_counted, call_found, compound_apply, compound_binary, compound_func, compound_range, compound_rows, compound_unary, ends_range, inner_for, inner_if, inner_parfor, inner_switch, inner_try, inner_while, stmt_assign, stmt_assign_list, stmt_delete, stmt_eval, stmt_for, stmt_if, stmt_parfor, stmt_spmd, stmt_switch, stmt_try, stmt_while, value_apply, value_binary, value_brace, value_chars, value_end, value_func, value_range, value_rows, value_state_of, value_unary, value_var}
+use Rattle.pl_eval.proofs.Nodes.{call_counted, call_found, compound_apply, compound_binary, compound_func, compound_range, compound_rows, compound_unary, ends_range, inner_for, inner_if, inner_parfor, inner_switch, inner_try, inner_while, stmt_assign, stmt_assign_list, stmt_delete, stmt_eval, stmt_nested, value_chars, value_nested, value_var}
 use Rattle.std.specs.Option.{option_copied}
 use Rattle.pl_eval.proofs.+running.Goals.{loops::repeat-else-loop-pass-test, loops::repeat-then-loop-pass-test+in_ok-test+else-not-branch+in_ok-take_turn+in_ok-block+in-Onward+else-pass-most}
 use Rattle.pl_operators.specs.Bracketing.{chars_of}
@@ -24,60 +24,6 @@ expressions::value-returns-in-Var-clause-ok g t c = rw (value_var c.args.program
 
 pub expressions::value-returns-in-Var-clause-err : goal.expressions::value-returns-in-Var-clause-err
 expressions::value-returns-in-Var-clause-err g t c = rw (value_var c.args.program.now (below c.args.program.now c.args.levels) c.args.frame c.args.e.now _ c.in-Var.is) (c.variable.ensures.err)
-
-pub expressions::value-returns-in-Apply-clause-ok : goal.expressions::value-returns-in-Apply-clause-ok
-expressions::value-returns-in-Apply-clause-ok g t c = rw (value_apply c.args.program.now (below c.args.program.now c.args.levels) c.args.frame c.args.e.now _ _ c.in-Apply.is) (c.nested.ensures.ok)
-
-pub expressions::value-returns-in-Apply-clause-err : goal.expressions::value-returns-in-Apply-clause-err
-expressions::value-returns-in-Apply-clause-err g t c = rw (value_apply c.args.program.now (below c.args.program.now c.args.levels) c.args.frame c.args.e.now _ _ c.in-Apply.is) (c.nested.ensures.err)
-
-pub expressions::value-returns-in-Brace-clause-ok : goal.expressions::value-returns-in-Brace-clause-ok
-expressions::value-returns-in-Brace-clause-ok g t c = rw (value_brace c.args.program.now (below c.args.program.now c.args.levels) c.args.frame c.args.e.now _ _ _ c.in-Brace.is) (c.nested-in-Brace.ensures.ok)
-
-pub expressions::value-returns-in-Brace-clause-err : goal.expressions::value-returns-in-Brace-clause-err
-expressions::value-returns-in-Brace-clause-err g t c = rw (value_brace c.args.program.now (below c.args.program.now c.args.levels) c.args.frame c.args.e.now _ _ _ c.in-Brace.is) (c.nested-in-Brace.ensures.err)
-
-pub expressions::value-returns-in-Unary-clause-ok : goal.expressions::value-returns-in-Unary-clause-ok
-expressions::value-returns-in-Unary-clause-ok g t c = rw (value_unary c.args.program.now (below c.args.program.now c.args.levels) c.args.frame c.args.e.now _ _ c.in-Unary.is) (c.nested-in-Unary.ensures.ok)
-
-pub expressions::value-returns-in-Unary-clause-err : goal.expressions::value-returns-in-Unary-clause-err
-expressions::value-returns-in-Unary-clause-err g t c = rw (value_unary c.args.program.now (below c.args.program.now c.args.levels) c.args.frame c.args.e.now _ _ c.in-Unary.is) (c.nested-in-Unary.ensures.err)
-
-pub expressions::value-returns-in-Binary-clause-ok : goal.expressions::value-returns-in-Binary-clause-ok
-expressions::value-returns-in-Binary-clause-ok g t c = rw (value_binary c.args.program.now (below c.args.program.now c.args.levels) c.args.frame c.args.e.now _ _ _ c.in-Binary.is) (c.nested-in-Binary.ensures.ok)
-
-pub expressions::value-returns-in-Binary-clause-err : goal.expressions::value-returns-in-Binary-clause-err
-expressions::value-returns-in-Binary-clause-err g t c = rw (value_binary c.args.program.now (below c.args.program.now c.args.levels) c.args.frame c.args.e.now _ _ _ c.in-Binary.is) (c.nested-in-Binary.ensures.err)
-
-pub expressions::value-returns-in-Range-clause-ok : goal.expressions::value-returns-in-Range-clause-ok
-expressions::value-returns-in-Range-clause-ok g t c = rw (value_range c.args.program.now (below c.args.program.now c.args.levels) c.args.frame c.args.e.now _ _ _ c.in-Range.is) (c.nested-in-Range.ensures.ok)
-
-pub expressions::value-returns-in-Range-clause-err : goal.expressions::value-returns-in-Range-clause-err
-expressions::value-returns-in-Range-clause-err g t c = rw (value_range c.args.program.now (below c.args.program.now c.args.levels) c.args.frame c.args.e.now _ _ _ c.in-Range.is) (c.nested-in-Range.ensures.err)
-
-pub expressions::value-returns-in-Rows-clause-ok : goal.expressions::value-returns-in-Rows-clause-ok
-expressions::value-returns-in-Rows-clause-ok g t c = rw (value_rows c.args.program.now (below c.args.program.now c.args.levels) c.args.frame c.args.e.now _ c.in-Rows.is) (c.nested-in-Rows.ensures.ok)
-
-pub expressions::value-returns-in-Rows-clause-err : goal.expressions::value-returns-in-Rows-clause-err
-expressions::value-returns-in-Rows-clause-err g t c = rw (value_rows c.args.program.now (below c.args.program.now c.args.levels) c.args.frame c.args.e.now _ c.in-Rows.is) (c.nested-in-Rows.ensures.err)
-
-pub expressions::value-returns-in-Func-clause-ok : goal.expressions::value-returns-in-Func-clause-ok
-expressions::value-returns-in-Func-clause-ok g t c = rw (value_func c.args.program.now (below c.args.program.now c.args.levels) c.args.frame c.args.e.now _ c.in-Func.is) (c.nested-in-Func.ensures.ok)
-
-pub expressions::value-returns-in-Func-clause-err : goal.expressions::value-returns-in-Func-clause-err
-expressions::value-returns-in-Func-clause-err g t c = rw (value_func c.args.program.now (below c.args.program.now c.args.levels) c.args.frame c.args.e.now _ c.in-Func.is) (c.nested-in-Func.ensures.err)
-
-pub expressions::value-returns-in-End-clause-ok : goal.expressions::value-returns-in-End-clause-ok
-expressions::value-returns-in-End-clause-ok g t c = rw (value_end c.args.program.now (below c.args.program.now c.args.levels) c.args.frame c.args.e.now c.in-End.is) (c.nested-in-End.ensures.ok)
-
-pub expressions::value-returns-in-End-clause-err : goal.expressions::value-returns-in-End-clause-err
-expressions::value-returns-in-End-clause-err g t c = rw (value_end c.args.program.now (below c.args.program.now c.args.levels) c.args.frame c.args.e.now c.in-End.is) (c.nested-in-End.ensures.err)
-
-pub expressions::value-returns-in-StateOf-clause-ok : goal.expressions::value-returns-in-StateOf-clause-ok
-expressions::value-returns-in-StateOf-clause-ok g t c = rw (value_state_of c.args.program.now (below c.args.program.now c.args.levels) c.args.frame c.args.e.now _ c.in-StateOf.is) (c.nested-in-StateOf.ensures.ok)
-
-pub expressions::value-returns-in-StateOf-clause-err : goal.expressions::value-returns-in-StateOf-clause-err
-expressions::value-returns-in-StateOf-clause-err g t c = rw (value_state_of c.args.program.now (below c.args.program.now c.args.levels) c.args.frame c.args.e.now _ c.in-StateOf.is) (c.nested-in-StateOf.ensures.err)
 
 pub expressions::compound-returns-in-Apply-clause-ok : goal.expressions::compound-returns-in-Apply-clause-ok
 expressions::compound-returns-in-Apply-clause-ok g t c = rw (compound_apply c.args.program.now (level_at c.args.program.now (below c.args.program.now c.args.levels)) c.args.frame c.args.e.now _ _ c.in-Apply.is) (rw (c.as_slice.ensures) at (c.application.ensures.ok))
@@ -132,48 +78,6 @@ statements::statement-returns-in-Delete-clause-ok g t c = rw (stmt_delete c.args
 
 pub statements::statement-returns-in-Delete-clause-err : goal.statements::statement-returns-in-Delete-clause-err
 statements::statement-returns-in-Delete-clause-err g t c = rw (stmt_delete c.args.program.now (below c.args.program.now c.args.levels) c.args.frame c.args.s.now _ _ c.in-Delete.is) (rw (c.as_slice-in-Delete.ensures) at (c.deletion.ensures.err))
-
-pub statements::statement-returns-in-If-clause-ok : goal.statements::statement-returns-in-If-clause-ok
-statements::statement-returns-in-If-clause-ok g t c = rw (stmt_if c.args.program.now (below c.args.program.now c.args.levels) c.args.frame c.args.s.now _ _ c.in-If.is) (c.nested.ensures.ok)
-
-pub statements::statement-returns-in-If-clause-err : goal.statements::statement-returns-in-If-clause-err
-statements::statement-returns-in-If-clause-err g t c = rw (stmt_if c.args.program.now (below c.args.program.now c.args.levels) c.args.frame c.args.s.now _ _ c.in-If.is) (c.nested.ensures.err)
-
-pub statements::statement-returns-in-While-clause-ok : goal.statements::statement-returns-in-While-clause-ok
-statements::statement-returns-in-While-clause-ok g t c = rw (stmt_while c.args.program.now (below c.args.program.now c.args.levels) c.args.frame c.args.s.now _ _ c.in-While.is) (c.nested-in-While.ensures.ok)
-
-pub statements::statement-returns-in-While-clause-err : goal.statements::statement-returns-in-While-clause-err
-statements::statement-returns-in-While-clause-err g t c = rw (stmt_while c.args.program.now (below c.args.program.now c.args.levels) c.args.frame c.args.s.now _ _ c.in-While.is) (c.nested-in-While.ensures.err)
-
-pub statements::statement-returns-in-For-clause-ok : goal.statements::statement-returns-in-For-clause-ok
-statements::statement-returns-in-For-clause-ok g t c = rw (stmt_for c.args.program.now (below c.args.program.now c.args.levels) c.args.frame c.args.s.now _ _ _ c.in-For.is) (c.nested-in-For.ensures.ok)
-
-pub statements::statement-returns-in-For-clause-err : goal.statements::statement-returns-in-For-clause-err
-statements::statement-returns-in-For-clause-err g t c = rw (stmt_for c.args.program.now (below c.args.program.now c.args.levels) c.args.frame c.args.s.now _ _ _ c.in-For.is) (c.nested-in-For.ensures.err)
-
-pub statements::statement-returns-in-Switch-clause-ok : goal.statements::statement-returns-in-Switch-clause-ok
-statements::statement-returns-in-Switch-clause-ok g t c = rw (stmt_switch c.args.program.now (below c.args.program.now c.args.levels) c.args.frame c.args.s.now _ _ _ c.in-Switch.is) (c.nested-in-Switch.ensures.ok)
-
-pub statements::statement-returns-in-Switch-clause-err : goal.statements::statement-returns-in-Switch-clause-err
-statements::statement-returns-in-Switch-clause-err g t c = rw (stmt_switch c.args.program.now (below c.args.program.now c.args.levels) c.args.frame c.args.s.now _ _ _ c.in-Switch.is) (c.nested-in-Switch.ensures.err)
-
-pub statements::statement-returns-in-Try-clause-ok : goal.statements::statement-returns-in-Try-clause-ok
-statements::statement-returns-in-Try-clause-ok g t c = rw (stmt_try c.args.program.now (below c.args.program.now c.args.levels) c.args.frame c.args.s.now _ _ c.in-Try.is) (c.nested-in-Try.ensures.ok)
-
-pub statements::statement-returns-in-Try-clause-err : goal.statements::statement-returns-in-Try-clause-err
-statements::statement-returns-in-Try-clause-err g t c = rw (stmt_try c.args.program.now (below c.args.program.now c.args.levels) c.args.frame c.args.s.now _ _ c.in-Try.is) (c.nested-in-Try.ensures.err)
-
-pub statements::statement-returns-in-Parfor-clause-ok : goal.statements::statement-returns-in-Parfor-clause-ok
-statements::statement-returns-in-Parfor-clause-ok g t c = rw (stmt_parfor c.args.program.now (below c.args.program.now c.args.levels) c.args.frame c.args.s.now _ _ _ _ c.in-Parfor.is) (c.nested-in-Parfor.ensures.ok)
-
-pub statements::statement-returns-in-Parfor-clause-err : goal.statements::statement-returns-in-Parfor-clause-err
-statements::statement-returns-in-Parfor-clause-err g t c = rw (stmt_parfor c.args.program.now (below c.args.program.now c.args.levels) c.args.frame c.args.s.now _ _ _ _ c.in-Parfor.is) (c.nested-in-Parfor.ensures.err)
-
-pub statements::statement-returns-in-Spmd-clause-ok : goal.statements::statement-returns-in-Spmd-clause-ok
-statements::statement-returns-in-Spmd-clause-ok g t c = rw (stmt_spmd c.args.program.now (below c.args.program.now c.args.levels) c.args.frame c.args.s.now _ _ c.in-Spmd.is) (c.nested-in-Spmd.ensures.ok)
-
-pub statements::statement-returns-in-Spmd-clause-err : goal.statements::statement-returns-in-Spmd-clause-err
-statements::statement-returns-in-Spmd-clause-err g t c = rw (stmt_spmd c.args.program.now (below c.args.program.now c.args.levels) c.args.frame c.args.s.now _ _ c.in-Spmd.is) (c.nested-in-Spmd.ensures.err)
 
 pub statements::compound-returns-in-If-clause-ok : goal.statements::compound-returns-in-If-clause-ok
 statements::compound-returns-in-If-clause-ok g t c = rw (inner_if c.args.program.now (level_at c.args.program.now (below c.args.program.now c.args.levels)) c.args.frame c.args.s.now _ _ c.in-If.is) (rw (c.as_slice.ensures) at (c.branches.ensures.ok))
@@ -440,3 +344,15 @@ sharing::range_ends-returns-in-None-clause-ok g t c = rw c.in-None.is (c.inner_e
 
 pub sharing::range_ends-returns-in-None-clause-err : goal.sharing::range_ends-returns-in-None-clause-err
 sharing::range_ends-returns-in-None-clause-err g t c = rw c.in-None.is (c.inner_ends.ensures.err)
+
+pub expressions::value-returns-in-Apply-clause-ok : goal.expressions::value-returns-in-Apply-clause-ok
+expressions::value-returns-in-Apply-clause-ok g t c = rw (value_nested c.args.program.now (below c.args.program.now c.args.levels) c.args.frame c.args.e.now c.in-Apply.is) (c.nested.ensures.ok)
+
+pub expressions::value-returns-in-Apply-clause-err : goal.expressions::value-returns-in-Apply-clause-err
+expressions::value-returns-in-Apply-clause-err g t c = rw (value_nested c.args.program.now (below c.args.program.now c.args.levels) c.args.frame c.args.e.now c.in-Apply.is) (c.nested.ensures.err)
+
+pub statements::statement-returns-in-If-clause-ok : goal.statements::statement-returns-in-If-clause-ok
+statements::statement-returns-in-If-clause-ok g t c = rw (stmt_nested c.args.program.now (below c.args.program.now c.args.levels) c.args.frame c.args.s.now c.in-If.is) (c.nested.ensures.ok)
+
+pub statements::statement-returns-in-If-clause-err : goal.statements::statement-returns-in-If-clause-err
+statements::statement-returns-in-If-clause-err g t c = rw (stmt_nested c.args.program.now (below c.args.program.now c.args.levels) c.args.frame c.args.s.now c.in-If.is) (c.nested.ensures.err)
