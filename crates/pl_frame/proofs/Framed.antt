@@ -1,4 +1,4 @@
--- Parts that only read: how they are put together.
+-- Parts that only read, in two runs: how they are put together.
 use Rattle.std.proofs.Common.{◌≡◌, ◌∙◌, ℕ, List, [], ◌++◌, Bool, true, false, Option, Result, Ok, Err, refl, sym, ap, append_assoc}
 use Rattle.std.specs.Prelude.{if◌then◌else◌}
 use Rattle.pl_base.specs.declared.errors.ScriptError.{ScriptError}
@@ -11,41 +11,57 @@ use Rattle.pl_meaning.specs.Logs.{Workspace, Trace, shows}
 use Rattle.pl_meaning.specs.declared.event.Event.{Event}
 use Rattle.pl_meaning.specs.Running.{Running, Outcome, before, pure, raise, ◌>>=◌, tell}
 use Rattle.pl_meaning.specs.Accesses.{settle}
-use Rattle.pl_frame.specs.Seeing.{onward, standing, Framed}
+use Rattle.pl_frame.specs.Seeing.{onward, standing, Comes_to, Framed}
 
 -- what comes to an error comes to no value
 pub no_value : {A : Type 0} (e : ScriptError) (a : A) → Err e ≡ Ok a → ⊥
 no_value e a is = cc
 
 -- two things shown one after another
-shown_twice : (ts us : List Trace) (o : Outcome) → before ts (before us o) ≡ before (ts ++ us) o
+pub shown_twice : (ts us : List Trace) (o : Outcome) → before ts (before us o) ≡ before (ts ++ us) o
 shown_twice ts us o = ap (λ (all : List Trace). record { shown = all; ending = o.ending }) (sym (append_assoc ts us o.shown))
 
+-- the part of one run only reads: it shows something and comes to something; where that is a value, the part of another run in its
+-- place shows the same and has the same value from the other workspace
+pub record Both (one other : Workspace) {A : Type 0} (p p' : Running A) : Type 0 where
+  pub shown : List Trace
+  pub gives : Result A ScriptError
+  pub here : Comes_to p one shown gives
+  pub there : (a : A) → gives ≡ Ok a → Comes_to p' other shown (Ok a)
+
 module _ (one other : Workspace) where
-  pub framed_pure : {A : Type 0} (a : A) → Framed one other (pure a)
+  -- in one run
+  pub framed_both : {A : Type 0} {p : Running A} → Both one other p p → Framed one other p
+  framed_both P = record { shown = P.shown; gives = P.gives; here = P.here; there = P.there }
+
+  pub framed_pure : {A : Type 0} (a : A) → Both one other (pure a) (pure a)
   framed_pure a = record { shown = []; gives = Ok a; here = λ k h t c r. refl; there = λ b is k h t c r. ap (λ g. onward k h g (standing other t c r)) is }
 
-  pub framed_raise : {A : Type 0} (e : ScriptError) → Framed one other (raise {A = A} e)
-  framed_raise e = record { shown = []; gives = Err e; here = λ k h t c r. refl; there = λ b is. absurd (no_value e b is) }
+  -- what comes to an error is like any other part
+  pub raise_any : {A : Type 0} (e : ScriptError) (p' : Running A) → Both one other (raise e) p'
+  raise_any e p' = record { shown = []; gives = Err e; here = λ k h t c r. refl; there = λ b is. absurd (no_value e b is) }
 
-  pub framed_settle : {A : Type 0} (place : Place) (r : Result A ErrKind) → Framed one other (settle place r)
+  pub framed_raise : {A : Type 0} (e : ScriptError) → Both one other (raise {A = A} e) (raise {A = A} e)
+  framed_raise e = raise_any e (raise e)
+
+  pub framed_settle : {A : Type 0} (place : Place) (r : Result A ErrKind) → Both one other (settle place r) (settle place r)
   framed_settle place (Ok a) = framed_pure a
   framed_settle place (Err kind) = framed_raise (error_of kind place)
 
-  pub framed_tell : (event : Event) → Framed one other (tell event)
+  pub framed_tell : (event : Event) → Both one other (tell event) (tell event)
   unfolding tell
   framed_tell event = record { shown = shows event; gives = Ok tt; here = λ k h t c r. refl; there = λ b is k h t c r. refl }
 
-  bound : {A B : Type 0} (p : Running A) (f : A → Running B) (P : Framed one other p) (r : Result A ScriptError) → P.gives ≡ r → ((a : A) → r ≡ Ok a → Framed one other (f a)) → Framed one other (p >>= f)
-  bound p f P (Ok a) is more =
-      let Q : Framed one other (f a) = more a refl in
+  bound : {A B : Type 0} (p p' : Running A) (f f' : A → Running B) (P : Both one other p p') (r : Result A ScriptError) → P.gives ≡ r → ((a : A) → r ≡ Ok a → Both one other (f a) (f' a)) → Both one other (p >>= f) (p' >>= f')
+  bound p p' f f' P (Ok a) is more =
+      let Q : Both one other (f a) (f' a) = more a refl in
       record {
         shown = P.shown ++ Q.shown;
         gives = Q.gives;
         here = λ k h t c r. P.here (λ b. f b k h) h t c r ∙ ap (λ g. before P.shown (onward (λ b. f b k h) h g (standing one t c r))) is ∙ ap (before P.shown) (Q.here k h t c r) ∙ shown_twice P.shown Q.shown _;
-        there = λ b gives k h t c r. P.there a is (λ x. f x k h) h t c r ∙ ap (before P.shown) (Q.there b gives k h t c r) ∙ shown_twice P.shown Q.shown _;
+        there = λ b gives k h t c r. P.there a is (λ x. f' x k h) h t c r ∙ ap (before P.shown) (Q.there b gives k h t c r) ∙ shown_twice P.shown Q.shown _;
       }
-  bound p f P (Err e) is more =
+  bound p p' f f' P (Err e) is more =
       record {
         shown = P.shown;
         gives = Err e;
@@ -54,14 +70,14 @@ module _ (one other : Workspace) where
       }
 
   -- a part and then another, of which something is known where the first gives this value
-  pub framed_then : {A B : Type 0} {p : Running A} (f : A → Running B) (P : Framed one other p) → ((a : A) → P.gives ≡ Ok a → Framed one other (f a)) → Framed one other (p >>= f)
-  framed_then {p = p} f P more = bound p f P P.gives refl more
+  pub framed_then : {A B : Type 0} {p p' : Running A} (f f' : A → Running B) (P : Both one other p p') → ((a : A) → P.gives ≡ Ok a → Both one other (f a) (f' a)) → Both one other (p >>= f) (p' >>= f')
+  framed_then {p = p} {p' = p'} f f' P more = bound p p' f f' P P.gives refl more
 
-  pub framed_bind : {A B : Type 0} {p : Running A} (f : A → Running B) → Framed one other p → ((a : A) → Framed one other (f a)) → Framed one other (p >>= f)
-  framed_bind f P more = framed_then f P (λ a is. more a)
+  pub framed_bind : {A B : Type 0} {p p' : Running A} (f f' : A → Running B) → Both one other p p' → ((a : A) → Both one other (f a) (f' a)) → Both one other (p >>= f) (p' >>= f')
+  framed_bind f f' P more = framed_then f f' P (λ a is. more a)
 
   -- a part that looks at a variable which is the same in both
-  pub framed_look : {A : Type 0} (q : Option Value → Running A) (slot : ℕ) → value_at one slot ≡ value_at other slot → Framed one other (q (value_at one slot)) → Framed one other (λ k h s. q (value_at s.env slot) k h s)
+  pub framed_look : {A : Type 0} (q : Option Value → Running A) (slot : ℕ) → value_at one slot ≡ value_at other slot → Both one other (q (value_at one slot)) (q (value_at one slot)) → Both one other (λ k h s. q (value_at s.env slot) k h s) (λ k h s. q (value_at s.env slot) k h s)
   framed_look q slot same P = record {
     shown = P.shown;
     gives = P.gives;
@@ -69,6 +85,6 @@ module _ (one other : Workspace) where
     there = λ a is k h t c r. ap (λ v. q v k h (standing other t c r)) (sym same) ∙ P.there a is k h t c r;
   }
 
-  pub framed_choice : {A : Type 0} (b : Bool) (p q : Running A) → Framed one other p → Framed one other q → Framed one other (if b then p else q)
-  framed_choice true p q P Q = P
-  framed_choice false p q P Q = Q
+  pub framed_choice : {A : Type 0} (b : Bool) (p p' q q' : Running A) → Both one other p p' → Both one other q q' → Both one other (if b then p else q) (if b then p' else q')
+  framed_choice true p p' q q' P Q = P
+  framed_choice false p p' q q' P Q = Q

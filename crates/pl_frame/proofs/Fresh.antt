@@ -26,7 +26,8 @@ use Rattle.pl_meaning.specs.Logs.{Workspace, Question}
 use Rattle.pl_meaning.specs.Names.{slot_of}
 use Rattle.pl_meaning.specs.Parts.{written_in}
 use Rattle.pl_meaning.specs.Forms.{is_among, is_item}
-use Rattle.pl_meaning.specs.Loops.{Write, Clash, body_frame, own_places, wrote, is_mixed_with, is_mixed, put_in, put_all, merged, indices, with_one, slots_from, written_slots, ends_of, writes, after, output_of, outputs, come_to}
+use Rattle.pl_meaning.specs.declared.event.Clash.{Clash}
+use Rattle.pl_meaning.specs.Loops.{Write, body_frame, own_places, wrote, is_mixed_with, is_mixed, put_in, put_all, merged, indices, with_one, slots_from, written_slots, ends_of, writes, after, output_of, outputs, come_to}
 use Rattle.pl_frame.specs.Ordering.{IsReady, Each}
 use Rattle.pl_frame.proofs.Own.{cell_alone, class_in, class_of_array, keeps_class, assigns_new}
 use Rattle.pl_frame.proofs.Iteration.{Laid, array_or, array_there}
@@ -46,7 +47,7 @@ some_same a b e = cc
 
 -- ## Classes
 
-one_class : (a b : Class) → class_number a ≡ class_number b → a ≡ b
+pub one_class : (a b : Class) → class_number a ≡ class_number b → a ≡ b
 one_class Logical Logical h = refl
 one_class Int Int h = refl
 one_class Char Char h = refl
@@ -57,7 +58,7 @@ one_class Int Char h = absurd (cc)
 one_class Char Logical h = absurd (cc)
 one_class Char Int h = absurd (cc)
 
-not_false : (b : Bool) → not b ≡ false → b ≡ true
+pub not_false : (b : Bool) → not b ≡ false → b ≡ true
 not_false true h = refl
 not_false false h = absurd (cc)
 
@@ -154,7 +155,7 @@ module _ (program : Resolved) (q : Question) (env : Workspace) (turns depth : �
   all_ok is [] outs h = tt
   all_ok is (s ∷ slots) outs h = by_parts (after program turns depth q env is s) refl (outputs program turns depth q env is slots) (λ more e. all_ok is slots more e) h
     where
-      by_parts : (x : Result (Option Value) ErrKind) → after program turns depth q env is s ≡ x → (m : Result (List Output) Clash) → ((more : List Output) → m ≡ Ok more → Each (Is_ok is) slots) → output_of program turns depth q env s x m ≡ Ok outs → Each (Is_ok is) (s ∷ slots)
+      by_parts : (x : Result (Option Value) ErrKind) → after program turns depth q env is s ≡ x → (m : Result (List Output) Clash) → ((more : List Output) → m ≡ Ok more → Each (Is_ok is) slots) → output_of s x m ≡ Ok outs → Each (Is_ok is) (s ∷ slots)
       by_parts (Err kind) e m em h = absurd (cc)
       by_parts (Ok None) e (Err c) em h = absurd (no_outputs c outs h)
       by_parts (Ok None) e (Ok more) em h = ((None, e), em more refl)

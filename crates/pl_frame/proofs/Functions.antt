@@ -23,37 +23,36 @@ use Rattle.pl_meaning.specs.Logs.{Workspace}
 use Rattle.pl_meaning.specs.Forms.{is_plain}
 use Rattle.pl_meaning.specs.Parts.{Level, dispatched, fed}
 use Rattle.pl_meaning.specs.Running.{Running}
-use Rattle.pl_frame.specs.Seeing.{Framed}
-use Rattle.pl_frame.proofs.Framed.{framed_pure, framed_raise, framed_settle, framed_tell, framed_bind, framed_choice}
+use Rattle.pl_frame.proofs.Framed.{Both, framed_pure, framed_raise, framed_settle, framed_tell, framed_bind, framed_choice}
 
 module _ (one other : Workspace) where
-  offered : {A : Type 0} (most nout : ℕ) (place : Place) (p : Running A) → Framed one other p → Framed one other (offering most nout place p)
-  offered most nout place p P = framed_choice one other (nat_lt most nout) (fail ArgCount place) p (framed_raise one other (error_of ArgCount place)) P
+  offered : {A : Type 0} (most nout : ℕ) (place : Place) (p p' : Running A) → Both one other p p' → Both one other (offering most nout place p) (offering most nout place p')
+  offered most nout place p p' P = framed_choice one other (nat_lt most nout) (fail ArgCount place) (fail ArgCount place) p p' (framed_raise one other (error_of ArgCount place)) P
 
-  print_framed : (text : List ℕ) → Framed one other (printed text)
-  print_framed text = framed_bind one other _ (framed_tell one other (Print text)) (λ u. framed_pure one other [])
+  print_framed : (text : List ℕ) → Both one other (printed text) (printed text)
+  print_framed text = framed_bind one other _ _ (framed_tell one other (Print text)) (λ u. framed_pure one other [])
 
-  own_framed : (place : Place) (f : Own) (nout : ℕ) (vs : List Value) → Framed one other (own_of place f nout vs)
-  own_framed place Disp nout vs = offered 0 nout place _ (framed_bind one other _ (framed_settle one other place (one_array vs)) (λ a. print_framed (displayed a)))
-  own_framed place Fprintf nout vs = offered 0 nout place _ (framed_bind one other _ (framed_settle one other place (text_by vs)) (λ text. print_framed text))
-  own_framed place Sprintf nout vs = offered 1 nout place _ (framed_bind one other given_array (framed_settle one other place (and_then (text_by vs) text_row)) (λ a. framed_pure one other _))
-  own_framed place Error nout vs = offered 0 nout place _ (framed_bind one other _ (framed_settle one other place (text_by vs)) (λ text. framed_raise one other _))
-  own_framed place NumToStr nout vs = offered 1 nout place _ (framed_bind one other given_array (framed_settle one other place (and_then (one_array vs) num2str_of)) (λ a. framed_pure one other _))
-  own_framed place MatToStr nout vs = offered 1 nout place _ (framed_bind one other given_array (framed_settle one other place (and_then (one_array vs) mat2str_of)) (λ a. framed_pure one other _))
+  own_framed : (place : Place) (f : Own) (nout : ℕ) (vs : List Value) → Both one other (own_of place f nout vs) (own_of place f nout vs)
+  own_framed place Disp nout vs = offered 0 nout place _ _ (framed_bind one other _ _ (framed_settle one other place (one_array vs)) (λ a. print_framed (displayed a)))
+  own_framed place Fprintf nout vs = offered 0 nout place _ _ (framed_bind one other _ _ (framed_settle one other place (text_by vs)) (λ text. print_framed text))
+  own_framed place Sprintf nout vs = offered 1 nout place _ _ (framed_bind one other given_array given_array (framed_settle one other place (and_then (text_by vs) text_row)) (λ a. framed_pure one other _))
+  own_framed place Error nout vs = offered 0 nout place _ _ (framed_bind one other _ _ (framed_settle one other place (text_by vs)) (λ text. framed_raise one other _))
+  own_framed place NumToStr nout vs = offered 1 nout place _ _ (framed_bind one other given_array given_array (framed_settle one other place (and_then (one_array vs) num2str_of)) (λ a. framed_pure one other _))
+  own_framed place MatToStr nout vs = offered 1 nout place _ _ (framed_bind one other given_array given_array (framed_settle one other place (and_then (one_array vs) mat2str_of)) (λ a. framed_pure one other _))
   own_framed place Feval nout vs = framed_raise one other (error_of BadKind place)
 
-  library_framed : (mode : Mode) (place : Place) (f : Known) (nout : ℕ) (vs : List Value) → Framed one other (library mode place f nout vs)
+  library_framed : (mode : Mode) (place : Place) (f : Known) (nout : ℕ) (vs : List Value) → Both one other (library mode place f nout vs) (library mode place f nout vs)
   unfolding library
   library_framed mode place (known.Own f) nout vs = own_framed place f nout vs
   library_framed mode place (known.Numbers f) nout vs = framed_settle one other place _
   library_framed mode place (known.Sets f) nout vs = framed_settle one other place _
 
-  not_first : {A : Type 0} (b : Bool) (p q : Running A) → not b ≡ true → Framed one other q → Framed one other (if b then p else q)
-  not_first false p q h Q = Q
-  not_first true p q h Q = absurd (cc)
+  not_first : {A : Type 0} (b : Bool) (p p' q q' : Running A) → not b ≡ true → Both one other q q' → Both one other (if b then p else q) (if b then p' else q')
+  not_first false p p' q q' h Q = Q
+  not_first true p p' q q' h Q = absurd (cc)
 
   -- a call by a name that stands for a function of the library
-  pub dispatched_framed : (program : Resolved) (d : Level) (place : Place) (nout : ℕ) (vs : List Value) (o : Option ℕ) (f : Option Known) → (is_none o && is_plain f) ≡ true → Framed one other (dispatched program d place nout vs o f)
-  dispatched_framed program d place nout vs None (Some f) h = not_first (is_feval f) (fed program d place nout vs) (library program.mode place f nout vs) h (library_framed program.mode place f nout vs)
-  dispatched_framed program d place nout vs None None h = absurd (cc)
-  dispatched_framed program d place nout vs (Some i) f h = absurd (cc)
+  pub dispatched_framed : (program : Resolved) (d d' : Level) (place : Place) (nout : ℕ) (vs : List Value) (o : Option ℕ) (f : Option Known) → (is_none o && is_plain f) ≡ true → Both one other (dispatched program d place nout vs o f) (dispatched program d' place nout vs o f)
+  dispatched_framed program d d' place nout vs None (Some f) h = not_first (is_feval f) (fed program d place nout vs) (fed program d' place nout vs) (library program.mode place f nout vs) (library program.mode place f nout vs) h (library_framed program.mode place f nout vs)
+  dispatched_framed program d d' place nout vs None None h = absurd (cc)
+  dispatched_framed program d d' place nout vs (Some i) f h = absurd (cc)

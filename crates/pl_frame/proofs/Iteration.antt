@@ -184,7 +184,7 @@ module _ (program : Resolved) (q : Question) (env : Workspace) (depth : ℕ) (L 
     unwritten = E.unwritten;
   })
 
-  link_within : (W : Workspace) (s : ℕ) (us : List (ℕ × ℤ)) → Link W s us → s < length W
+  pub link_within : (W : Workspace) (s : ℕ) (us : List (ℕ × ℤ)) → Link W s us → s < length W
   link_within W s us (inl F) = has_slot W s (value.Array F.array) F.there
   link_within W s us (inr E) = E.within
 
@@ -210,14 +210,14 @@ module _ (program : Resolved) (q : Question) (env : Workspace) (depth : ℕ) (L 
 
   -- two workspaces that hold the same at the own place look the same to the iteration
   module _ (i : ℤ) (vs : ℕ → List (ℕ × ℤ)) (avoids : (s : ℕ) → Written s → (z : ℤ) → last_of (vs s) (place_of i) z ≡ z) where
-    abbrev mine : (ℕ → Option ℤ) → ℕ → List (ℕ × ℤ)
+    abbrev pub mine : (ℕ → Option ℤ) → ℕ → List (ℕ × ℤ)
     mine o s = own i (o s)
 
-    abbrev all_of : (ℕ → Option ℤ) → ℕ → List (ℕ × ℤ)
+    abbrev pub all_of : (ℕ → Option ℤ) → ℕ → List (ℕ × ℤ)
     all_of o s = vs s ++ own i (o s)
 
-    seen_parts : (o : ℕ → Option ℤ) (E W : Workspace) → Between (mine o) E → Between (all_of o) W → (s : ℕ) → Written s → (v : Value) → value_at E s ≡ Some v → (w : Value) × (value_at W s ≡ Some w) × ((x : Value) → select_value v (own_places i) ≡ Ok x → select_value w (own_places i) ≡ Ok x)
-    seen_parts o E W BE BW s w v held = by_links (BE.held s w) (BW.held s w)
+    seen_parts : (o : ℕ → Option ℤ) (E W : Workspace) → Between (mine o) E → Between (all_of o) W → (s : ℕ) → Written s → (v x : Value) → value_at E s ≡ Some v → select_value v (own_places i) ≡ Ok x → (w : Value) × (value_at W s ≡ Some w) × (select_value w (own_places i) ≡ Ok x)
+    seen_parts o E W BE BW s w v x held picked = by_links (BE.held s w) (BW.held s w)
       where
         picks : (b c : Array) → Holding (base s) (own i (o s)) b → Holding (base s) (vs s ++ own i (o s)) c → (x : Value) → select_value (value.Array b) (own_places i) ≡ Ok x → select_value (value.Array c) (own_places i) ≡ Ok x
         picks b c H J x h =
@@ -235,19 +235,19 @@ module _ (program : Resolved) (q : Question) (env : Workspace) (depth : ℕ) (L 
             ∙ sym (selected b i there.0 there.1)
             ∙ h
 
-        by_links : Link E s (mine o s) → Link W s (all_of o s) → (w : Value) × (value_at W s ≡ Some w) × ((x : Value) → select_value v (own_places i) ≡ Ok x → select_value w (own_places i) ≡ Ok x)
-        by_links (inl e) (inl c) = (value.Array c.array, c.there, λ x h. picks e.array c.array e.holds c.holds x (subst (λ (u : Value). select_value u (own_places i) ≡ Ok x) (some_same v (value.Array e.array) (sym held ∙ e.there)) h))
+        by_links : Link E s (mine o s) → Link W s (all_of o s) → (w : Value) × (value_at W s ≡ Some w) × (select_value w (own_places i) ≡ Ok x)
+        by_links (inl e) (inl c) = (value.Array c.array, c.there, picks e.array c.array e.holds c.holds x (subst (λ (u : Value). select_value u (own_places i) ≡ Ok x) (some_same v (value.Array e.array) (sym held ∙ e.there)) picked))
         by_links (inl e) (inr n) = absurd (e.begun (rest_empty (vs s) (own i (o s)) n.unwritten) n.nothing_before)
         by_links (inr n) (inl c) = absurd (some_none v (sym held ∙ n.nothing_there))
         by_links (inr n) (inr m) = absurd (some_none v (sym held ∙ n.nothing_there))
 
-    seen_apart : (o : ℕ → Option ℤ) (E W : Workspace) → Between (mine o) E → Between (all_of o) W → value_at E L.at ≡ Some (number_of i) → value_at W L.at ≡ Some (number_of i) → (n : Name) (s : ℕ) → is_among names n ≡ false → slot_of program f n.text ≡ Some s → (b : Bool) → (s == L.at) ≡ b → value_at E s ≡ value_at W s
+    pub seen_apart : (o : ℕ → Option ℤ) (E W : Workspace) → Between (mine o) E → Between (all_of o) W → value_at E L.at ≡ Some (number_of i) → value_at W L.at ≡ Some (number_of i) → (n : Name) (s : ℕ) → is_among names n ≡ false → slot_of program f n.text ≡ Some s → (b : Bool) → (s == L.at) ≡ b → value_at E s ≡ value_at W s
     seen_apart o E W BE BW ei wi n s h is true e =
         let here : s ≡ L.at = eqb-true s L.at e in
         ap (value_at E) here ∙ ei ∙ sym wi ∙ ap (value_at W) (sym here)
     seen_apart o E W BE BW ei wi n s h is false e = BE.apart s (not_written n s h is) (eqb-false s L.at e) ∙ sym (BW.apart s (not_written n s h is) (eqb-false s L.at e))
 
-    at_slot : (W : Workspace) → value_at W L.at ≡ Some (number_of i) → (s : ℕ) → slot_of program f q.index.text ≡ Some s → value_at W s ≡ Some (number_of i)
+    pub at_slot : (W : Workspace) → value_at W L.at ≡ Some (number_of i) → (s : ℕ) → slot_of program f q.index.text ≡ Some s → value_at W s ≡ Some (number_of i)
     at_slot W h s is = ap (value_at W) (some_same s L.at (sym is ∙ L.at_is)) ∙ h
 
     alike : (o : ℕ → Option ℤ) (E W : Workspace) → Between (mine o) E → Between (all_of o) W → value_at E L.at ≡ Some (number_of i) → value_at W L.at ≡ Some (number_of i) → Alike program f q.index names i E W
@@ -255,7 +255,7 @@ module _ (program : Resolved) (q : Question) (env : Workspace) (depth : ℕ) (L 
       unwritten = λ n s h is. seen_apart o E W BE BW ei wi n s h is (s == L.at) refl;
       index_here = at_slot E ei;
       index_there = at_slot W wi;
-      parts = λ n s v h is held. seen_parts o E W BE BW s (n, h, is) v held;
+      parts = λ n s v x h is held picked. seen_parts o E W BE BW s (n, h, is) v x held picked;
     }
 
     frames : (o : ℕ → Option ℤ) (E W : Workspace) (BE : Between (mine o) E) (BW : Between (all_of o) W) (ei : value_at E L.at ≡ Some (number_of i)) (wi : value_at W L.at ≡ Some (number_of i)) → Framing program f q.index names i E W (alike o E W BE BW ei wi) L.at L.at_is (value_in program (below program depth))
@@ -272,10 +272,10 @@ module _ (program : Resolved) (q : Question) (env : Workspace) (depth : ℕ) (L 
 
     -- ## A slot that gets an array
 
-    abbrev with_value : (ℕ → Option ℤ) → ℕ → ℤ → ℕ → Option ℤ
+    abbrev pub with_value : (ℕ → Option ℤ) → ℕ → ℤ → ℕ → Option ℤ
     with_value o slot z s = cond (slot == s) (Some z) (o s)
 
-    put_array : (ws us : ℕ → List (ℕ × ℤ)) (W : Workspace) (slot : ℕ) (b : Array) → Between ws W → Written slot → (slot ≡ L.at → ⊥) → ((s : ℕ) → (slot == s) ≡ false → us s ≡ ws s) → Holding (base slot) (us slot) b → (us slot ≡ [] → ⊥) → Between us (slice_set W slot (Some (value.Array b)))
+    pub put_array : (ws us : ℕ → List (ℕ × ℤ)) (W : Workspace) (slot : ℕ) (b : Array) → Between ws W → Written slot → (slot ≡ L.at → ⊥) → ((s : ℕ) → (slot == s) ≡ false → us s ≡ ws s) → Holding (base slot) (us slot) b → (us slot ≡ [] → ⊥) → Between us (slice_set W slot (Some (value.Array b)))
     put_array ws us W slot b B w apart same H some = record {
       wide = (let n : length (slice_set W slot (Some (value.Array b))) ≡ length W = length-set W slot (Some (value.Array b)) in let m : L.at < length W = B.wide in omega arith);
       apart = λ s none other. set_elsewhere W slot s (Some (value.Array b)) (λ e. none (subst Written e w)) ∙ B.apart s none other;

@@ -52,7 +52,7 @@ module _ (program : Resolved) (q : Question) (depth : ℕ) (names : List Name) (
     unwritten = λ n s among is. refl;
     index_here = at_slot E h;
     index_there = at_slot E h;
-    parts = λ n s v among is held. (v, held, λ x g. g);
+    parts = λ n s v x among is held picked. (v, held, picked);
   }
 
   pub frames : (E : Workspace) (h : value_at E at ≡ Some (number_of i)) → Framing program f q.index names i E E (itself E h) at at_is (value_in program (below program depth))

@@ -15,3 +15,17 @@ pub mod Orders
 pub mod Alone
 pub mod Fresh
 pub mod Single
+pub mod Went
+pub mod Classes
+pub mod Sharing
+pub mod Passing
+pub mod Passes
+pub mod Rising
+pub mod Outputs
+pub mod Anywhere
+pub mod Ranges
+pub mod PassByPass
+pub mod Behind
+pub mod Ordinary
+pub mod Levels
+pub mod Answering

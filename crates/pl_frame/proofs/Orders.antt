@@ -28,7 +28,8 @@ use Rattle.pl_meaning.specs.Logs.{Workspace, Question}
 use Rattle.pl_meaning.specs.Names.{slot_of}
 use Rattle.pl_meaning.specs.Parts.{written_in}
 use Rattle.pl_meaning.specs.Forms.{is_among}
-use Rattle.pl_meaning.specs.Loops.{Write, Clash, body_frame, own_places, standing_at, kept_at, wrote, is_mixed_with, is_mixed, put_in, put_all, merged, indices, with_one, slots_from, written_slots, ends_of, writes, after, output_of, outputs, come_to, plain, texts}
+use Rattle.pl_meaning.specs.declared.event.Clash.{Clash}
+use Rattle.pl_meaning.specs.Loops.{Write, body_frame, own_places, standing_at, kept_at, wrote, is_mixed_with, is_mixed, put_in, put_all, merged, indices, with_one, slots_from, written_slots, ends_of, writes, after, output_of, outputs, come_to, plain, texts}
 use Rattle.pl_frame.specs.Ordering.{HasArray, IsOther, plain_texts, Reorders, Each}
 use Rattle.pl_frame.proofs.Values.{and_first, and_second}
 use Rattle.pl_frame.proofs.Growth.{Grown, to_line, reaches, either_grown, second_step}
@@ -73,7 +74,7 @@ pub each_of : {A : Type 0} (p : A → Bool) (xs : List A) → list_all p xs ≡ 
 each_of p [] h = tt
 each_of p (x ∷ xs) h = (and_first (p x) (list_all p xs) h, each_of p xs (and_second (p x) (list_all p xs) h))
 
-each_append : {A : Type 0} (P : A → Type 0) (xs ys : List A) → Each P xs → Each P ys → Each P (xs ++ ys)
+pub each_append : {A : Type 0} (P : A → Type 0) (xs ys : List A) → Each P xs → Each P ys → Each P (xs ++ ys)
 each_append P [] ys a b = b
 each_append P (x ∷ xs) ys a b = (a.0, each_append P xs ys a.1 b)
 
@@ -110,6 +111,12 @@ put_unmixed new b y i k = ap (λ (t : Bool). if t then Err MixedClass else assig
 
 no_value : (v : Value) → ◌≡◌ {A = Result (Option Value) ErrKind} (Ok None) (Ok (Some v)) → ⊥
 no_value v e = cc
+
+no_array : (v : Value) → ◌≡◌ {A = Option Value} (Some v) None → ⊥
+no_array v e = cc
+
+no_cells : (x : ℕ × ℤ) (xs : List (ℕ × ℤ)) → x ∷ xs ≡ [] → ⊥
+no_cells x xs e = cc
 
 no_top : (a b : ℕ) → max (a + 1) b ≡ 0 → ⊥
 no_top a b e = absurd (omega arith)
@@ -221,7 +228,7 @@ module _ (program : Resolved) (q : Question) (env : Workspace) (turns depth : �
   same_outs : (a b : List Output) → ◌≡◌ {A = Result (List Output) Clash} (Ok a) (Ok b) → a ≡ b
   same_outs a b e = cc
 
-  outputs_by : (is : List ℤ) (s : ℕ) (w : Target s) (r : Result (Option Value) ErrKind) → after program turns depth q env is s ≡ r → (m : Result (List Output) Clash) → ((outs : List Output) → m ≡ Ok outs → Each (Merged is) outs) → (outs : List Output) → output_of program turns depth q env s r m ≡ Ok outs → Each (Merged is) outs
+  outputs_by : (is : List ℤ) (s : ℕ) (w : Target s) (r : Result (Option Value) ErrKind) → after program turns depth q env is s ≡ r → (m : Result (List Output) Clash) → ((outs : List Output) → m ≡ Ok outs → Each (Merged is) outs) → (outs : List Output) → output_of s r m ≡ Ok outs → Each (Merged is) outs
   outputs_by is s w (Err kind) e m rest outs h = absurd (none_of (record { slot = s; kind = kind }) outs h)
   outputs_by is s w (Ok None) e m rest outs h = rest outs h
   outputs_by is s w (Ok (Some v)) e (Err c) rest outs h = absurd (none_of c outs h)
@@ -268,6 +275,29 @@ module _ (program : Resolved) (q : Question) (env : Workspace) (turns depth : �
           let m = merge_new s w i is done n.1 in
           let known : after program turns depth q env (i ∷ is) s ≡ Ok (Some (value.Array m.0)) = ap (λ (x : Option Value). merged x (writes program turns depth q env s (i ∷ is))) n.1 ∙ m.1 in
           (m.0, ok_some (value.Array m.0) v (sym known ∙ h), m.2)
+
+  -- a variable after all writes has what a workspace has that holds them
+  pub after_held : (is : List ℤ) → AllDone is → (s : ℕ) → Target s → (W : Workspace) → Link program q env depth L W s (cells_of is s) → after program turns depth q env is s ≡ Ok (value_at W s)
+  after_held is done s w W l = by_first is done (L.arrays w.0 s w.1 w.2) l
+    where
+      by_first : (is : List ℤ) → AllDone is → HasArray env s ⊎ ((s < length env) × (value_at env s ≡ None)) → Link program q env depth L W s (cells_of is s) → after program turns depth q env is s ≡ Ok (value_at W s)
+      by_first is done (inl a) (inl F) =
+          let first : value_at env s ≡ Some (value.Array (first_array s)) = a.1 ∙ ap (λ (x : Array). Some (value.Array x)) (sym (base_is program q env depth L s a.0 a.1)) in
+          let m = merge false s w is done [] (first_array s) (holds_itself program q env turns depth L s w) in
+          ap (λ (x : Option Value). merged x (writes program turns depth q env s is)) first
+          ∙ m.1
+          ∙ ap (λ (x : Array). Ok (Some (value.Array x))) (only_one (first_array s) m.0 F.array (cells_of is s) m.2 F.holds)
+          ∙ ap Ok (sym F.there)
+      by_first is done (inl a) (inr n) = absurd (no_array (value.Array a.0) (sym a.1 ∙ n.nothing_before))
+      by_first [] done (inr n) (inl F) = absurd (F.begun refl n.1)
+      by_first [] done (inr n) (inr m) = ap (λ (x : Option Value). merged x []) n.1 ∙ ap Ok (sym m.nothing_there)
+      by_first (i ∷ is) done (inr n) (inl F) =
+          let m = merge_new s w i is done n.1 in
+          ap (λ (x : Option Value). merged x (writes program turns depth q env s (i ∷ is))) n.1
+          ∙ m.1
+          ∙ ap (λ (x : Array). Ok (Some (value.Array x))) (only_one (first_array s) m.0 F.array (cells_of (i ∷ is) s) m.2 F.holds)
+          ∙ ap Ok (sym F.there)
+      by_first (i ∷ is) done (inr n) (inr m) = absurd (no_cells (place_of i, cell program q env turns depth L i s) (cells_of is s) m.unwritten)
 
   -- a variable of the loop's answer has an array
   filled_at_end : (is p : List ℤ) → Reorders is p → (s : ℕ) (v : Value) → after program turns depth q env is s ≡ Ok (Some v) → (W : Workspace) → Link program q env depth L W s (cells_of p s) → Filled program q env depth L W s (cells_of p s)

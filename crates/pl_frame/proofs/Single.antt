@@ -83,10 +83,10 @@ module _ (program : Resolved) (q : Question) (env : Workspace) (depth : ℕ) (i 
   abbrev Future_of : Value → ℕ → Type 0
   Future_of = Fut program q env depth i
 
-  own_cell : (u : Value) (s : ℕ) → Array_of u s → Array
+  pub own_cell : (u : Value) (s : ℕ) → Array_of u s → Array
   own_cell u s r = cell_alone r.array.class (get_or r.array.cells (place_of i) (pos 0))
 
-  array_selected : (u : Value) (s : ℕ) (r : Array_of u s) → select_value u (own_places i) ≡ Ok (value.Array (own_cell u s r))
+  pub array_selected : (u : Value) (s : ℕ) (r : Array_of u s) → select_value u (own_places i) ≡ Ok (value.Array (own_cell u s r))
   unfolding own_cell
   array_selected u s r =
       let reached = reaches (shape_of r.base) (top ((place_of i, r.z) ∷ [])) (shape_of r.array) r.holds.grown in
@@ -109,10 +109,10 @@ module _ (program : Resolved) (q : Question) (env : Workspace) (depth : ℕ) (i 
   abbrev write_of : Value → Write
   write_of v = record { at = own_places i; value = v }
 
-  wrote_value : (one : Workspace) (s : ℕ) (u v : Value) → value_at one s ≡ Some u → select_value u (own_places i) ≡ Ok v → wrote s i (Some one) ≡ write_of v ∷ []
+  pub wrote_value : (one : Workspace) (s : ℕ) (u v : Value) → value_at one s ≡ Some u → select_value u (own_places i) ≡ Ok v → wrote s i (Some one) ≡ write_of v ∷ []
   wrote_value one s u v there picks = ap (standing_at (own_places i)) there ∙ ap (kept_at (own_places i)) picks
 
-  future_selected : (u : Value) (s : ℕ) (r : Future_of u s) → select_value u (own_places i) ≡ Ok (value.Futures (r.call ∷ []))
+  pub future_selected : (u : Value) (s : ℕ) (r : Future_of u s) → select_value u (own_places i) ≡ Ok (value.Futures (r.call ∷ []))
   future_selected u s r = ap (λ (x : Value). select_value x (own_places i)) r.is ∙ select_future i r.call r.one
 
   -- what the merge makes of its writes alone
@@ -184,7 +184,7 @@ module _ (program : Resolved) (q : Question) (env : Workspace) (turns depth : �
       (λ s w. inl (set_elsewhere env at s (Some (number_of i)) (λ x. not_index program q env turns depth L s w (sym x))))
       turns [] d.0 no_rules (sym (ap (λ (x : Outcome). x.ending) (iter_is program q env turns depth L env i)) ∙ d.1)
 
-  there : (i : ℤ) (one : Workspace) → end_at i ≡ Some one → (s : ℕ) → Target s → Had program q env depth i one s
+  pub there : (i : ℤ) (one : Workspace) → end_at i ≡ Some one → (s : ℕ) → Target s → Had program q env depth i one s
   there i one e s w = (reached i one e).touched w.0 s w.1 w.2
 
   -- an iteration leaves a row of futures

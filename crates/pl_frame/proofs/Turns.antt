@@ -91,14 +91,14 @@ module _ (program : Resolved) (q : Question) (env : Workspace) (turns depth : �
   not_index s w e = not_written program q env depth L q.index s (index_free_in q.body L.items) (L.at_is ∙ ap Some (sym e)) w
 
   -- where an iteration begins
-  start_is : (W : Workspace) (i : ℤ) → start_of program q W i ≡ slice_set W L.at (Some (number_of i))
+  pub start_is : (W : Workspace) (i : ℤ) → start_of program q W i ≡ slice_set W L.at (Some (number_of i))
   start_is W i = ap (λ (o : Option ℕ). with_slot W o (number_of i)) L.at_is
 
   pub iter_is : (W : Workspace) (i : ℤ) → Iter program turns depth q W i ≡ block_from program (below program depth) f q.body finished failed (standing (slice_set W L.at (Some (number_of i))) turns [] no_rules)
   unfolding Iter block_in
   iter_is W i = ap (λ (E : Workspace). block_from program (below program depth) f q.body finished failed (standing E turns [] no_rules)) (start_is W i)
 
-  begun : (ws : ℕ → List (ℕ × ℤ)) (W : Workspace) (i : ℤ) → Amid ws W → Amid ws (slice_set W L.at (Some (number_of i)))
+  pub begun : (ws : ℕ → List (ℕ × ℤ)) (W : Workspace) (i : ℤ) → Amid ws W → Amid ws (slice_set W L.at (Some (number_of i)))
   begun ws W i B = record {
     wide = (let n : length (slice_set W L.at (Some (number_of i))) ≡ length W = length-set W L.at (Some (number_of i)) in let m : L.at < length W = B.wide in omega arith);
     apart = λ s none other. set_elsewhere W L.at s (Some (number_of i)) (λ e. other (sym e)) ∙ B.apart s none other;
@@ -162,12 +162,12 @@ module _ (program : Resolved) (q : Question) (env : Workspace) (turns depth : �
     pub holds : Holding (first_array s) ((place_of i, cell i s) ∷ []) array
 
   -- the value is the one that stands at the place
-  wrote_cell : (i : ℤ) (s : ℕ) (o : Option ℤ) (z : ℤ) (b : Array) → o ≡ Some z → Holding (first_array s) (own i o) b → get_or b.cells (place_of i) (pos 0) ≡ z
+  pub wrote_cell : (i : ℤ) (s : ℕ) (o : Option ℤ) (z : ℤ) (b : Array) → o ≡ Some z → Holding (first_array s) (own i o) b → get_or b.cells (place_of i) (pos 0) ≡ z
   wrote_cell i s o z b is H =
       let J : Holding (first_array s) (own i (Some z)) b = subst (λ (x : Option ℤ). Holding (first_array s) (own i x) b) is H in
       J.cells (place_of i) ∙ ap (λ (t : Bool). cond t z (get_or (first_array s).cells (place_of i) (pos 0))) (eq-eqb (place_of i) (place_of i) refl)
 
-  cell_is : (i : ℤ) (s : ℕ) (one : Workspace) (left : List Choice) (b : Array) (z : ℤ) → (Iter program turns depth q env i).ending ≡ Done one left → value_at one s ≡ Some (value.Array b) → get_or b.cells (place_of i) (pos 0) ≡ z → cell i s ≡ z
+  pub cell_is : (i : ℤ) (s : ℕ) (one : Workspace) (left : List Choice) (b : Array) (z : ℤ) → (Iter program turns depth q env i).ending ≡ Done one left → value_at one s ≡ Some (value.Array b) → get_or b.cells (place_of i) (pos 0) ≡ z → cell i s ≡ z
   cell_is i s one left b z h there e =
       ap (λ (x : Ending). cell_in (end_of x) s i) h
       ∙ ap (λ (v : Option Value). get_or (array_or Int v).cells (place_of i) (pos 0)) there
@@ -175,7 +175,7 @@ module _ (program : Resolved) (q : Question) (env : Workspace) (turns depth : �
       ∙ e
 
   -- a variable that an iteration wrote has an array
-  full : (i : ℤ) (us : List (ℕ × ℤ)) (o : Option ℤ) (z : ℤ) → o ≡ Some z → us ++ own i o ≡ [] → ⊥
+  pub full : (i : ℤ) (us : List (ℕ × ℤ)) (o : Option ℤ) (z : ℤ) → o ≡ Some z → us ++ own i o ≡ [] → ⊥
   full i us o z is e = some_own i z (sym (ap (own i) is) ∙ rest_empty us (own i o) e)
 
   good_by : (i : ℤ) (s : ℕ) (w : Target s) (one : Workspace) (left : List Choice) → Ends_in program q env depth L one → (Iter program turns depth q env i).ending ≡ Done one left → Good i s

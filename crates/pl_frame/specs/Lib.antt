@@ -1,3 +1,5 @@
 pub mod Seeing
 pub mod Reading
 pub mod Ordering
+pub mod Rising
+pub mod Ordinary

@@ -1,6 +1,6 @@
 -- The law of the order of a loop's iterations.
-use Rattle.std.specs.Prelude.{◌≡◌, ◌≢◌, ◌<◌, ◌⊎◌, ℕ, ℤ, length, List, [], ◌∷◌, ◌++◌, true, false, Option, Some, None, Ok}
-use Rattle.pl_array.specs.Arrays.{Array, IsValid}
+use Rattle.std.specs.Prelude.{◌≡◌, ◌≢◌, ◌<◌, ◌≤◌, ◌⊎◌, ◌*◌, ℕ, ℤ, length, List, [], ◌∷◌, ◌++◌, true, false, Option, Some, None, Ok}
+use Rattle.pl_array.specs.Arrays.{Array, most}
 use Rattle.pl_syntax.specs.declared.expr.Name.{Name}
 use Rattle.pl_values.specs.declared.value.Value.TheVariants as value
 use Rattle.pl_values.specs.Workspaces.{value_at}
@@ -28,9 +28,14 @@ Each P (x ∷ xs) = P x × Each P xs
 abbrev pub HasSlot : Resolved → Question → Workspace → Type 0
 HasSlot program q env = (at : ℕ) → slot_of program (body_frame q) q.index.text ≡ Some at → at < length env
 
--- a slot has an array, and a valid one, as all arrays of a session are
+-- an array has one cell for each of its places, and no more of them than an array may have
+pub record IsFull (a : Array) : Type 0 where
+  pub count : length a.cells ≡ a.rows * a.cols
+  pub limit : a.rows * a.cols ≤ most
+
+-- a slot has an array, and a full one, as all arrays of a session are
 abbrev pub HasArray : Workspace → ℕ → Type 0
-HasArray env slot = (a : Array) × (value_at env slot ≡ Some (value.Array a)) × IsValid a
+HasArray env slot = (a : Array) × (value_at env slot ≡ Some (value.Array a)) × IsFull a
 
 -- a variable's slot in the workspace is still empty
 abbrev pub IsNew : Workspace → ℕ → Type 0

@@ -43,8 +43,8 @@ pub record Alike (program : Resolved) (f : Frame) (index : Name) (written : List
   pub unwritten : (n : Name) (slot : ℕ) → is_among written n ≡ false → slot_of program f n.text ≡ Some slot → value_at one slot ≡ value_at other slot
   pub index_here : (slot : ℕ) → slot_of program f index.text ≡ Some slot → value_at one slot ≡ Some (number_of i)
   pub index_there : (slot : ℕ) → slot_of program f index.text ≡ Some slot → value_at other slot ≡ Some (number_of i)
-  pub parts : (n : Name) (slot : ℕ) (v : Value) → is_among written n ≡ true → slot_of program f n.text ≡ Some slot → value_at one slot ≡ Some v
-      → (w : Value) × (value_at other slot ≡ Some w) × ((x : Value) → select_value v (own_places i) ≡ Ok x → select_value w (own_places i) ≡ Ok x)
+  pub parts : (n : Name) (slot : ℕ) (v x : Value) → is_among written n ≡ true → slot_of program f n.text ≡ Some slot → value_at one slot ≡ Some v → select_value v (own_places i) ≡ Ok x
+      → (w : Value) × (value_at other slot ≡ Some w) × (select_value w (own_places i) ≡ Ok x)
 
 -- what `end` stands for is the same in both
 abbrev pub same_end : Workspace → Workspace → Option Ends → Type 0
