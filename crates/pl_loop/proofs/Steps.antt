@@ -1,5 +1,5 @@
 -- One more iteration, and what is left then.
-use Rattle.std.proofs.Common.{◌≡◌, ℕ, ◌+◌, ◌-◌, ◌<◌, suc, ℤ, pos, ◌+ℤ◌, List, [], ◌∷◌, ◌++◌, map, Bool, Option, Some, None, Result, Ok, Err, refl, sym, ap, subst, ◌∙◌, append_assoc, arith}
+use Rattle.std.proofs.Common.{◌≡◌, ℕ, ◌+◌, ◌-◌, ◌<◌, suc, ℤ, pos, ◌+ℤ◌, List, [], ◌∷◌, ◌++◌, map, Bool, Option, Some, Result, Ok, Err, refl, sym, ap, subst, ◌∙◌, append_assoc, arith}
 use Rattle.std.proofs.lemmas.Int.{ints}
 use Rattle.pl_base.specs.declared.errors.ErrKind.{ErrKind}
 use Rattle.pl_values.specs.declared.value.Value.{Value}
@@ -8,12 +8,13 @@ use Rattle.pl_resolve.specs.declared.resolved.Resolved.{Resolved}
 use Rattle.pl_meaning.specs.declared.frame.Frame.{Frame}
 use Rattle.pl_meaning.specs.declared.ended.Ended.{Ended}
 use Rattle.pl_meaning.specs.declared.ended.Ended.TheVariants as ended
-use Rattle.pl_meaning.specs.Logs.{Workspace, Trace, Byte, Question, Log, grown}
+use Rattle.pl_meaning.specs.Logs.{Workspace, Trace, Byte, Question, grown}
 use Rattle.pl_meaning.specs.Running.{Outcome, Done}
 use Rattle.pl_meaning.specs.Runs.{Carries, run_of}
-use Rattle.pl_meaning.specs.Loops.{Iter, Write, put_in, put_all, wrote, writes, ends_of, end_of, texts, text_of, indices, no_rules, body_frame, start_of}
+use Rattle.pl_meaning.specs.Loops.{Iter, Write, put_in, put_all, wrote, writes, ends_of, end_of, texts, text_of, indices, no_rules, body_frame, start_of, output_of}
 use Rattle.pl_loop.specs.declared.variables.Variable.{Variable}
-use Rattle.pl_loop.specs.Coming.{put_more, joined, output_before, outputs_by, Ran, Stands}
+use Rattle.pl_loop.specs.Passes.{printer_log}
+use Rattle.pl_loop.specs.Coming.{put_more, joined, outputs_by, Ran, Stands}
 
 -- writes and then others
 
@@ -52,10 +53,6 @@ shown_text old new ts e = sym (text_of_bytes new) ∙ ap text_of e ∙ text_of_a
 pub printed : (old new : List ℕ) (ts : List Trace) → Some (map Byte new) ≡ grown (Some (map Byte old)) ts → new ≡ old ++ text_of ts
 printed old new ts e = let same : map Byte new ≡ map Byte old ++ ts = cc in shown_text old new ts same
 
--- the log of a printer with this text
-abbrev pub printer_log : List ℕ → Log
-printer_log text = record { given = []; shown = Some (map Byte text); stops = 0; sink = None; rules = no_rules }
-
 ended_so : (o : Outcome) (end : Workspace) (old new : List ℕ) → Carries o (Ok (ended.Done end)) (printer_log old) (printer_log new) → Ran o (Ok (Ok end)) old new
 ended_so o end old new h = (h.0, printed old new o.shown h.1.0)
 
@@ -74,7 +71,7 @@ module _ (program : Resolved) (turns depth : ℕ) (q : Question) (env : Workspac
   outputs_step i rest end e (v ∷ vs) =
       let more : List Write = writes program turns depth q env v.slot rest in
       let now : put_more v.fresh v.come (wrote v.slot i (ends_of program turns depth q env i) ++ more) ≡ put_more v.fresh (put_more v.fresh v.come (wrote v.slot i (Some end))) more = ap (λ o. put_more v.fresh v.come (wrote v.slot i o ++ more)) e ∙ put_more_append v.fresh v.come (wrote v.slot i (Some end)) more in
-      ap (λ x. output_before v.slot x (outputs_by (λ slot. writes program turns depth q env slot (i ∷ rest)) vs)) now ∙ ap (λ y. output_before v.slot (put_more v.fresh (put_more v.fresh v.come (wrote v.slot i (Some end))) more) y) (outputs_step i rest end e vs)
+      ap (λ x. output_of v.slot x (outputs_by (λ slot. writes program turns depth q env slot (i ∷ rest)) vs)) now ∙ ap (λ y. output_of v.slot (put_more v.fresh (put_more v.fresh v.come (wrote v.slot i (Some end))) more) y) (outputs_step i rest end e vs)
 
   -- behind one more iteration
   stands_step : (all : List ℤ) (i : ℤ) (rest : List ℤ) (first : List Variable) (text : List ℕ) (now : List Variable) (end : Workspace) (more : List ℕ) → Stands program turns depth q env all (i ∷ rest) first text now → (Iter program turns depth q env i).ending ≡ Done end [] → more ≡ text ++ text_of (Iter program turns depth q env i).shown → Stands program turns depth q env all rest first more (map (joined i end) now)

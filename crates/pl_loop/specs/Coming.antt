@@ -1,12 +1,10 @@
 -- What a loop over workers has come to so far: its variables, each with the writes that are in it, and what the iterations to
 -- come make of them.
-use Rattle.std.specs.Prelude.{◌≡◌, ℕ, ◌==◌, ◌++◌, codes, slice_get, unwrap_or, ℤ, List, [], ◌∷◌, Bool, not, is_some, Option, Some, None, Result, Ok, Err, if◌then◌else◌}
-use Rattle.std.specs.Fmt.{signed_decimal}
+use Rattle.std.specs.Prelude.{◌≡◌, ℕ, ◌==◌, ◌++◌, ℤ, List, [], ◌∷◌, Bool, not, is_some, Option, Some, None, Result, Ok, Err, if◌then◌else◌}
 use Rattle.pl_base.specs.declared.choice.Choice.TheVariants as choice
 use Rattle.pl_base.specs.declared.errors.ErrKind.{ErrKind}
 use Rattle.pl_base.specs.declared.errors.ScriptError.{ScriptError}
 use Rattle.pl_base.specs.declared.memory.NoMemory.{NoMemory}
-use Rattle.pl_errors.specs.Errors.{message_of}
 use Rattle.pl_values.specs.declared.value.Value.{Value}
 use Rattle.pl_values.specs.Workspaces.{value_at}
 use Rattle.pl_operators.specs.Operands.{and_then}
@@ -14,12 +12,11 @@ use Rattle.pl_resolve.specs.declared.resolved.Resolved.{Resolved}
 use Rattle.pl_syntax.specs.declared.expr.Name.{Name}
 use Rattle.pl_meaning.specs.declared.event.Answer.TheVariants as answer
 use Rattle.pl_meaning.specs.declared.event.Output.{Output}
-use Rattle.pl_meaning.specs.Names.{names_in}
+use Rattle.pl_meaning.specs.declared.event.Clash.{Clash}
 use Rattle.pl_meaning.specs.Logs.{Workspace, Question}
 use Rattle.pl_meaning.specs.Running.{Outcome, Done as Ended, Raised}
-use Rattle.pl_meaning.specs.Loops.{Write, own_places, put_in, put_all, wrote, writes, text_of, texts, all_done}
+use Rattle.pl_meaning.specs.Loops.{Write, own_places, put_in, put_all, wrote, writes, text_of, texts, all_done, output_of, name_at, clash_error}
 use Rattle.pl_loop.specs.declared.variables.Variable.{Variable}
-use Rattle.pl_loop.specs.declared.variables.Clash.{Clash}
 use Rattle.pl_loop.specs.declared.running.Done.{Done}
 
 -- the name, if there is one, as a list
@@ -50,17 +47,10 @@ option_writes i (Some v) = record { at = own_places i; value = v } ∷ []
 abbrev pub joined : ℤ → Workspace → Variable → Variable
 joined i end v = record { slot = v.slot; fresh = v.fresh; come = put_more v.fresh v.come (wrote v.slot i (Some end)) }
 
--- a variable that has come to this, before others
-abbrev pub output_before : ℕ → Result (Option Value) ErrKind → Result (List Output) Clash → Result (List Output) Clash
-output_before slot (Err kind) more = Err (record { slot = slot; kind = kind })
-output_before slot (Ok None) more = more
-output_before slot (Ok (Some v)) (Err other) = Err other
-output_before slot (Ok (Some v)) (Ok outs) = Ok (record { slot = slot; value = v } ∷ outs)
-
 -- what variables come to by the writes that are still to come: all of them, or the first of which the writes don't go together
 abbrev pub outputs_by : (ℕ → List Write) → List Variable → Result (List Output) Clash
 outputs_by more [] = Ok []
-outputs_by more (v ∷ vs) = output_before v.slot (put_more v.fresh v.come (more v.slot)) (outputs_by more vs)
+outputs_by more (v ∷ vs) = output_of v.slot (put_more v.fresh v.come (more v.slot)) (outputs_by more vs)
 
 -- nothing is written any more
 abbrev pub no_writes : ℕ → List Write
@@ -88,18 +78,6 @@ module _ (program : Resolved) (turns depth : ℕ) (q : Question) (env : Workspac
 
 -- ## The answer
 
--- an error of an iteration, headed by its value of the index
-abbrev pub heading : ℤ → ScriptError → ScriptError
-heading i e = record e { text = codes "iteration " ++ signed_decimal i ++ codes ": " ++ e.text }
-
--- the name of the variable of a slot; empty where there is none
-abbrev pub name_in : Resolved → Question → ℕ → List ℕ
-name_in program q slot = unwrap_or (slice_get (names_in program q.scope) slot) []
-
--- the error of a variable of this name of which the writes don't go together
-abbrev pub clashing : Question → List ℕ → ErrKind → ScriptError
-clashing q name kind = record { kind = kind; place = q.place; text = codes "variable " ++ name ++ codes ": " ++ message_of kind }
-
 -- all iterations as one run of one piece
 abbrev pub whole : ℕ → List (List ℕ)
 whole count = if count == 0 then [] else (count ∷ []) ∷ []
@@ -107,4 +85,4 @@ whole count = if count == 0 then [] else (count ∷ []) ∷ []
 -- a loop of which no iteration raised
 abbrev pub ending_of : Resolved → Question → List ℕ → Result (List Output) Clash → Done
 ending_of program q text (Ok outs) = record { choice = choice.Runs (record { runs = whole q.count }); answer = answer.Looped (record { text = text; outputs = outs }) }
-ending_of program q text (Err c) = record { choice = choice.Merge (name_in program q c.slot); answer = answer.Raised (clashing q (name_in program q c.slot) c.kind) }
+ending_of program q text (Err c) = record { choice = choice.Merge (name_at program q c.slot); answer = answer.Raised (clash_error program q c) }

@@ -1,17 +1,22 @@
 //! The choice under which a loop is answered, and the answer.
 
-ghost use Rattle.std.specs.Prelude.{◌≡◌, ℕ, List, IfOk};
+ghost use Rattle.std.specs.Prelude.{◌≡◌, ℕ, List, Ok, IfOk};
 ghost use Rattle.pl_base.specs.declared.choice.Choice.{Choice};
 ghost use Rattle.pl_meaning.specs.declared.event.Answer.{Answer};
 ghost use Rattle.pl_meaning.specs.Logs.{question_of};
-ghost use Rattle.pl_loop.specs.Coming.{ending_of, heading, outputs_by, no_writes, whole as whole_runs};
+ghost use Rattle.pl_meaning.specs.Loops.{headed as heading};
+ghost use Rattle.pl_resolve.specs.declared.resolved.Resolved.{Resolved};
+ghost use Rattle.pl_frame.specs.Rising.{outputs_in};
+ghost use Rattle.pl_loop.specs.Passes.{EachOnce};
+ghost use Rattle.pl_loop.specs.Coming.{ending_of, outputs_by, no_writes, whole as whole_runs};
 
 use crate::headed::{clash_error, headed, name_of};
 use crate::iterating::{Failed, Joined};
+use crate::rising::{Passed, take_outputs};
 use crate::running::Done;
-use crate::variables::{Clash, settle};
+use crate::variables::settle;
 use pl_base::{Bracket, Choice, NoMemory, Seq, Text};
-use pl_meaning::{Answer, Loop, Looped};
+use pl_meaning::{Answer, Clash, Loop, Looped, Output};
 use pl_resolve::Resolved;
 use std::alloc::Global;
 
@@ -29,6 +34,25 @@ fn whole(alloc: Global, count: u32) -> Result<Bracket, NoMemory>
     Ok(Bracket { runs })
 }
 
+/// A loop that is done, with what it printed and its variables.
+fn done(
+    alloc: Global,
+    question: Loop<'_>,
+    text: Vec<u8>,
+    outputs: Seq<Output>,
+) -> Result<Done, NoMemory>
+    ensures { IfOk result (λ d. (program : Resolved) → d ≡ ending_of program (question_of question.entry) text.items (Ok outputs)) }
+{
+    let bracket = whole(alloc, question.count)?;
+    Ok(Done {
+        choice: Choice::Runs(bracket),
+        answer: Answer::Looped(Looped {
+            text: Text::from_vec(text),
+            outputs,
+        }),
+    })
+}
+
 /// A loop of which the writes of a variable don't go together.
 fn clashed(
     alloc: Global,
@@ -39,11 +63,26 @@ fn clashed(
     ensures { IfOk result (λ d. (text : List ℕ) → d ≡ ending_of program.now (question_of question.entry) text (Err clash)) }
 {
     let name = name_of(alloc, program, question, clash.slot)?;
-    let error = clash_error(alloc, question, &name, clash.kind)?;
+    let error = clash_error(alloc, program, question, &clash)?;
     Ok(Done {
         choice: Choice::Merge(name),
         answer: Answer::Raised(error),
     })
+}
+
+/// A loop of which all passes ended.
+pub(crate) fn finish_passed(
+    alloc: Global,
+    question: Loop<'_>,
+    passed: Passed<'_>,
+    slots: &[u32],
+) -> Result<Done, NoMemory>
+    requires { EachOnce slots.now }
+    ensures { IfOk result (λ d. (program : Resolved) → d ≡ ending_of program (question_of question.entry) passed.entry.text.items (Ok (outputs_in passed.entry.env slots.now))) }
+{
+    let Passed { env, text } = passed;
+    let outputs = take_outputs(alloc, slots, env)?;
+    done(alloc, question, text, outputs)
 }
 
 /// A loop of which no iteration raised.
@@ -58,16 +97,7 @@ pub(crate) fn finish(
     let Joined { text, variables } = joined;
     match settle(alloc, variables)? {
         Err(clash) => clashed(alloc, program, question, clash),
-        Ok(outputs) => {
-            let bracket = whole(alloc, question.count)?;
-            Ok(Done {
-                choice: Choice::Runs(bracket),
-                answer: Answer::Looped(Looped {
-                    text: Text::from_vec(text),
-                    outputs,
-                }),
-            })
-        }
+        Ok(outputs) => done(alloc, question, text, outputs),
     }
 }
 

@@ -2,12 +2,12 @@
 
 ghost use Rattle.std.specs.Prelude.{◌≡◌, IfOk};
 ghost use Rattle.pl_meaning.specs.Logs.{question_of};
-ghost use Rattle.pl_loop.specs.Coming.{heading, name_in, clashing};
+ghost use Rattle.pl_meaning.specs.Loops.{headed as heading, name_at, clash_error as clashing};
 
 use itoa::Buffer;
-use pl_base::{ErrKind, NoMemory, ScriptError, Text};
+use pl_base::{NoMemory, ScriptError, Text};
 use pl_errors::message;
-use pl_meaning::Loop;
+use pl_meaning::{Clash, Loop};
 use pl_resolve::Resolved;
 use std::alloc::Global;
 
@@ -34,7 +34,7 @@ pub(crate) fn name_of(
     question: Loop<'_>,
     slot: u32,
 ) -> Result<Text, NoMemory>
-    ensures { IfOk result (λ name. name ≡ name_in program.now (question_of question.entry) slot) }
+    ensures { IfOk result (λ name. name ≡ name_at program.now (question_of question.entry) slot) }
 {
     let Some(scope) = program.scopes.items().get(question.scope) else {
         return Text::of(alloc, b"");
@@ -48,18 +48,19 @@ pub(crate) fn name_of(
 /// The error of a variable of which the writes don't go together.
 pub(crate) fn clash_error(
     alloc: Global,
+    program: &Resolved,
     question: Loop<'_>,
-    name: &Text,
-    kind: ErrKind,
+    clash: &Clash,
 ) -> Result<ScriptError, NoMemory>
-    ensures { IfOk result (λ e. e ≡ clashing (question_of question.entry) name.now kind) }
+    ensures { IfOk result (λ e. e ≡ clashing program.now (question_of question.entry) clash.now) }
 {
+    let name = name_of(alloc, program, question, clash.slot)?;
     let mut text = Vec::from_slice(alloc, b"variable ")?;
     text.extend_from_slice(name.bytes())?;
     text.extend_from_slice(b": ")?;
-    text.extend_from_slice(message(kind).as_bytes())?;
+    text.extend_from_slice(message(clash.kind).as_bytes())?;
     Ok(ScriptError {
-        kind,
+        kind: clash.kind,
         place: question.place,
         text: Text::from_vec(text),
     })

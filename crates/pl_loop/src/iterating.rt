@@ -1,6 +1,6 @@
 //! The iterations, one after another, each by itself.
 
-ghost use Rattle.std.specs.Prelude.{◌≡◌, true, [], IfOk, IfErr};
+ghost use Rattle.std.specs.Prelude.{◌≡◌, true, [], IfOk, IfErr, OnOk};
 ghost use Rattle.pl_meaning.specs.Logs.{question_of};
 ghost use Rattle.pl_meaning.specs.Running.{Raised};
 ghost use Rattle.pl_meaning.specs.Loops.{Iter, body_frame as frame_of, start_of, indices, is_index};
@@ -8,10 +8,9 @@ ghost use Rattle.pl_loop.specs.Coming.{Ran, Stands};
 
 use crate::printer::Printer;
 use crate::variables::{Variable, join_all};
-use crate::writing::slot_of;
 use pl_base::{NoMemory, ScriptError};
 use pl_eval::run_body;
-use pl_meaning::{Ended, Frame, Loop};
+use pl_meaning::{Ended, Frame, Loop, slot_of};
 use pl_operators::number;
 use pl_resolve::Resolved;
 use pl_values::Env;
@@ -43,6 +42,21 @@ pub(crate) fn body_frame(question: Loop<'_>) -> Frame
     }
 }
 
+/// Puts a value into the slot of the loop's index.
+pub(crate) fn set_index(
+    program: &Resolved,
+    question: Loop<'_>,
+    env: &mut Env<'_>,
+    i: i64,
+) -> Result<(), NoMemory>
+    ensures { OnOk result (env.new ≡ start_of program.now (question_of question.entry) env.old i) }
+{
+    match slot_of(program, body_frame(question), &question.index.text) {
+        Some(slot) => env.set(slot, number(i)),
+        None => Ok(()),
+    }
+}
+
 /// The workspace in which an iteration begins: that before the loop, with its own value of the index.
 fn start<'s>(
     alloc: Global,
@@ -54,18 +68,13 @@ fn start<'s>(
     ensures { IfOk result (λ e. e ≡ start_of program.now (question_of question.entry) env.now i) }
 {
     let mut start = Env::over(alloc, env)?;
-    match slot_of(program, body_frame(question), &question.index.text) {
-        Some(slot) => {
-            start.set(slot, number(i))?;
-            Ok(start)
-        }
-        None => Ok(start),
-    }
+    set_index(program, question, &mut start, i)?;
+    Ok(start)
 }
 
 /// Runs the body by itself with this value of the index. What it prints is added to the printer's text.
 #[tactic(auto, unfolding(pl_meaning::specs::Loops::Iter))]
-fn iterate<'s>(
+pub(crate) fn iterate<'s>(
     alloc: Global,
     program: &Resolved,
     question: Loop<'_>,
@@ -107,7 +116,7 @@ pub(crate) fn iterate_all(
     variables: Vec<Variable>,
 ) -> Result<Result<Joined, Failed>, NoMemory>
     ensures done { IfOk result (λ r. IfOk r (λ joined. Stands program.now turns depth (question_of question.entry) env.now (indices question.entry.first question.entry.count) [] variables.items joined.text.items joined.variables.items)) }
-    ensures index { IfOk result (λ r. IfErr r (λ failed. is_index program.now turns depth (question_of question.entry) env.now failed.i ≡ true)) }
+    ensures index { IfOk result (λ r. IfErr r (λ failed. is_index (question_of question.entry) failed.i ≡ true)) }
     ensures raised { IfOk result (λ r. IfErr r (λ failed. (Iter program.now turns depth (question_of question.entry) env.now failed.i).ending ≡ Raised failed.error [])) }
 {
     let mut printer = Printer {

@@ -1,13 +1,14 @@
 //! The variables that a loop writes, each with what the iterations so far wrote to it.
 
 ghost use Rattle.std.specs.Prelude.{◌≡◌, map, IfOk};
+ghost use Rattle.std.specs.Option.{option_copied};
 ghost use Rattle.pl_values.specs.declared.value.Value.{out-Value};
 ghost use Rattle.pl_operators.specs.Picking.{select_value};
 ghost use Rattle.pl_meaning.specs.Loops.{is_mixed as mixed, is_mixed_with as mixed_with, own_places, kept_at};
 ghost use Rattle.pl_loop.specs.Coming.{begun, joined, option_writes, put_one, outputs_by, no_writes};
 
 use pl_base::{ErrKind, NoMemory, Or, Seq};
-use pl_meaning::Output;
+use pl_meaning::{Clash, Output};
 use pl_operators::{Argument, assign_value, number, select_value as pick};
 use pl_values::{Env, Value};
 use std::alloc::Global;
@@ -20,13 +21,6 @@ pub(crate) struct Variable {
     pub(crate) fresh: bool,
     /// What it has come to: a value, or none yet; or why the writes don't go together.
     pub(crate) come: Result<Option<Value>, ErrKind>,
-}
-
-/// A variable of which the writes don't go together, and why.
-#[derive(Debug, Drop)]
-pub(crate) struct Clash {
-    pub(crate) slot: u32,
-    pub(crate) kind: ErrKind,
 }
 
 /// A variable before the iterations.
@@ -73,8 +67,8 @@ fn is_mixed_with(a: &Value, b: &Value) -> bool
 }
 
 /// Whether a variable has an array of another class than this one.
-fn is_mixed(held: &Option<Value>, value: &Value) -> bool
-    ensures { result ≡ mixed held.now value.now }
+pub(crate) fn is_mixed(held: Option<&Value>, value: &Value) -> bool
+    ensures { result ≡ mixed (option_copied held.entry) value.now }
 {
     match held {
         Some(old) => is_mixed_with(old, value),
@@ -92,7 +86,7 @@ fn put(
 ) -> Result<Result<Option<Value>, ErrKind>, NoMemory>
     ensures { IfOk result (λ c. c ≡ put_one fresh held (record { at = places.now; value = value.now })) }
 {
-    if fresh && is_mixed(&held, value) {
+    if fresh && is_mixed(held.as_ref(), value) {
         return Ok(Err(ErrKind::MixedClass));
     }
     let mut held = held;

@@ -5,24 +5,17 @@ ghost use Rattle.std.specs.List.{list_any};
 ghost use Rattle.std.specs.Option.{option_copied};
 ghost use Rattle.pl_syntax.specs.declared.stmt.Stmt.{out-Stmt};
 ghost use Rattle.pl_syntax.specs.declared.stmt.StmtKind.{out-StmtKind};
-ghost use Rattle.pl_meaning.specs.Names.{slot_of as slot_named};
 ghost use Rattle.pl_meaning.specs.Parts.{written_in, written_by};
-ghost use Rattle.pl_meaning.specs.Loops.{with_one, slots_from};
+ghost use Rattle.pl_meaning.specs.Logs.{question_of};
+ghost use Rattle.pl_meaning.specs.Loops.{with_one, slots_from, written_slots as slots_of_loop};
 ghost use Rattle.pl_loop.specs.Coming.{maybe};
 
-use pl_base::{NoMemory, Text};
-use pl_meaning::Frame;
+use crate::iterating::body_frame;
+use pl_base::NoMemory;
+use pl_meaning::{Frame, Loop, slot_of};
 use pl_resolve::Resolved;
 use pl_syntax::{Name, Stmt, StmtKind, Target};
 use std::alloc::Global;
-
-/// The slot of a variable of the frame's scope.
-pub(crate) fn slot_of(program: &Resolved, frame: Frame, name: &Text) -> Option<u32>
-    ensures { result ≡ slot_named program.now frame name.now }
-{
-    let scope = program.scopes.items().get(frame.scope)?;
-    scope.slot(name)
-}
 
 /// The variable that a statement writes a part of, if it does.
 fn written_name(s: &Stmt) -> Option<&Name>
@@ -58,7 +51,7 @@ fn add(slots: &mut Vec<u32>, slot: Option<u32>) -> Result<(), NoMemory>
 }
 
 /// The slots of the variables that statements write a part of, each once.
-pub(crate) fn written_slots(
+fn written_slots(
     alloc: Global,
     program: &Resolved,
     frame: Frame,
@@ -74,4 +67,20 @@ pub(crate) fn written_slots(
         add(&mut slots, slot_of(program, frame, &name.text))?;
     }
     Ok(slots)
+}
+
+/// The slots of the variables that a loop writes, each once.
+pub(crate) fn loop_slots(
+    alloc: Global,
+    program: &Resolved,
+    question: Loop<'_>,
+) -> Result<Vec<u32>, NoMemory>
+    ensures { IfOk result (λ slots. slots.items ≡ slots_of_loop program.now (question_of question.entry)) }
+{
+    written_slots(
+        alloc,
+        program,
+        body_frame(question),
+        question.body.as_slice(),
+    )
 }

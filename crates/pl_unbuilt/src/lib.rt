@@ -4,7 +4,6 @@
 #![tactic(auto)]
 
 mod first;
-mod forms;
 mod names;
 mod nodes;
 

@@ -3,8 +3,8 @@
 ghost use Rattle.std.specs.Prelude.{◌≡◌, ◌++◌, OnOk, IfOk};
 ghost use Rattle.pl_unbuilt.specs.Nodes.{of_expr, of_exprs, of_target, of_targets, of_workers, is_between as is_between_two, of_arms, of_stmt, of_block, frame_of, of_functions, of_program};
 
-use crate::forms::is_form;
 use pl_base::{NoMemory, Place};
+use pl_forms::is_form;
 use pl_meaning::Frame;
 use pl_resolve::Resolved;
 use pl_syntax::{Arm, Expr, ExprKind, Stmt, StmtKind, Target};
@@ -134,6 +134,7 @@ fn add_workers(
 /// Adds the nodes of a statement.
 #[cycle(blocks)]
 fn add_stmt(
+    alloc: Global,
     out: &mut Vec<Place>,
     program: &Resolved,
     frame: Frame,
@@ -153,30 +154,30 @@ fn add_stmt(
         }
         StmtKind::Delete(_, list) => add_exprs(out, list)?,
         StmtKind::If(arms, last) => {
-            add_arms(out, program, frame, arms)?;
-            add_block(out, program, frame, last)?;
+            add_arms(alloc, out, program, frame, arms)?;
+            add_block(alloc, out, program, frame, last)?;
         }
         StmtKind::While(test, body) => {
             add_expr(out, test)?;
-            add_block(out, program, frame, body)?;
+            add_block(alloc, out, program, frame, body)?;
         }
         StmtKind::For(_, range, body) => {
             add_expr(out, range)?;
-            add_block(out, program, frame, body)?;
+            add_block(alloc, out, program, frame, body)?;
         }
         StmtKind::Parfor(index, range, most, body) => {
-            let fits = is_form(program, frame, index, body);
+            let fits = is_form(alloc, program, frame, index, body)?;
             add_workers(out, range, most, fits, s.place)?;
         }
         StmtKind::Spmd(_, _) => out.push(s.place)?,
         StmtKind::Switch(value, cases, last) => {
             add_expr(out, value)?;
-            add_arms(out, program, frame, cases)?;
-            add_block(out, program, frame, last)?;
+            add_arms(alloc, out, program, frame, cases)?;
+            add_block(alloc, out, program, frame, last)?;
         }
         StmtKind::Try(body, handler) => {
-            add_block(out, program, frame, body)?;
-            add_block(out, program, frame, handler)?;
+            add_block(alloc, out, program, frame, body)?;
+            add_block(alloc, out, program, frame, handler)?;
         }
         StmtKind::Break | StmtKind::Continue | StmtKind::Return => {}
     }
@@ -186,6 +187,7 @@ fn add_stmt(
 /// Adds the nodes of statements.
 #[cycle(blocks)]
 fn add_block(
+    alloc: Global,
     out: &mut Vec<Place>,
     program: &Resolved,
     frame: Frame,
@@ -194,7 +196,7 @@ fn add_block(
     ensures { OnOk result (out.new.items ≡ out.old.items ++ of_block program.now frame body.now) }
 {
     for s in body.as_slice() {
-        add_stmt(out, program, frame, s)?;
+        add_stmt(alloc, out, program, frame, s)?;
     }
     Ok(())
 }
@@ -202,6 +204,7 @@ fn add_block(
 /// Adds the nodes of tests and of what they guard.
 #[cycle(blocks)]
 fn add_arms(
+    alloc: Global,
     out: &mut Vec<Place>,
     program: &Resolved,
     frame: Frame,
@@ -211,13 +214,14 @@ fn add_arms(
 {
     for arm in arms.as_slice() {
         add_expr(out, &arm.test)?;
-        add_block(out, program, frame, &arm.body)?;
+        add_block(alloc, out, program, frame, &arm.body)?;
     }
     Ok(())
 }
 
 /// Adds the nodes of the statements of a scope.
 fn add_scope(
+    alloc: Global,
     out: &mut Vec<Place>,
     program: &Resolved,
     scope: usize,
@@ -231,15 +235,15 @@ fn add_scope(
         wanted: 0,
         ends: None,
     };
-    add_block(out, program, frame, body)
+    add_block(alloc, out, program, frame, body)
 }
 
 /// Adds the nodes of functions.
-fn add_functions(out: &mut Vec<Place>, program: &Resolved) -> Result<(), NoMemory>
+fn add_functions(alloc: Global, out: &mut Vec<Place>, program: &Resolved) -> Result<(), NoMemory>
     ensures { OnOk result (out.new.items ≡ out.old.items ++ of_functions program.now 1 program.now.program.functions) }
 {
     for (i, function) in program.program.functions.as_slice().iter().enumerate() {
-        add_scope(out, program, i + 1, &function.body)?;
+        add_scope(alloc, out, program, i + 1, &function.body)?;
     }
     Ok(())
 }
@@ -249,7 +253,7 @@ pub(crate) fn nodes(alloc: Global, program: &Resolved) -> Result<Vec<Place>, NoM
     ensures { IfOk result (λ v. v.items ≡ of_program program.now) }
 {
     let mut out = Vec::new(alloc);
-    add_scope(&mut out, program, 0, &program.program.body)?;
-    add_functions(&mut out, program)?;
+    add_scope(alloc, &mut out, program, 0, &program.program.body)?;
+    add_functions(alloc, &mut out, program)?;
     Ok(out)
 }

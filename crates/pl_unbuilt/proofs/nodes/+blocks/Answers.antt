@@ -21,5 +21,5 @@ add_stmt-returns-in_ok-add_block-in-Try-2 t c =
 pub add_stmt-returns-in_ok-add_workers-in-Parfor : goal.add_stmt-returns-in_ok-add_workers-in-Parfor
 add_stmt-returns-in_ok-add_workers-in-Parfor t c =
     c.in_ok-add_workers-in-Parfor.ensures
-    ∙ ap (λ b. c.args.out.now.items ++ of_workers c.in-Parfor.range c.in-Parfor.most b c.args.s.now.place) (c.is_form-fits.ensures ∙ sym (form_fits c.args.program.now c.args.frame c.in-Parfor.index c.in-Parfor.body))
+    ∙ ap (λ b. c.args.out.now.items ++ of_workers c.in-Parfor.range c.in-Parfor.most b c.args.s.now.place) (c.in_ok-fits-in-Parfor.ensures ∙ sym (form_fits c.args.program.now c.args.frame c.in-Parfor.index c.in-Parfor.body))
     ∙ ap (λ l. c.args.out.now.items ++ l) (sym (at_parfor c.args.program.now c.args.frame c.args.s.now c.in-Parfor.index c.in-Parfor.range c.in-Parfor.most c.in-Parfor.body c.in-Parfor.is))

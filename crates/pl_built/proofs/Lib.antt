@@ -1,0 +1,9 @@
+pub mod Shapes
+pub mod Standing
+pub mod Asking
+pub mod Laying
+pub mod Expressions
+pub mod Statements
+pub mod Whole
+pub mod Runs
+pub mod Ordinary
