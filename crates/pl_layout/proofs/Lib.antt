@@ -1,0 +1,5 @@
+pub mod Parts
+pub mod Decimals
+pub mod Spelt
+pub mod Reading
+pub mod Law

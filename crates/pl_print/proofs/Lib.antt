@@ -1,0 +1,4 @@
+mod Grows
+mod Parts
+mod Lists
+mod Shows

@@ -1,0 +1,15 @@
+pub mod States
+pub mod Operands
+pub mod Heads
+pub mod Nodes
+pub mod Words
+pub mod Expressions
+pub mod Lines
+pub mod Simple
+pub mod Compound
+pub mod Statements
+pub mod Programs
+pub mod Whole
+pub mod PlacesInExpressions
+pub mod PlacesInStatements
+pub mod PlacesInPrograms

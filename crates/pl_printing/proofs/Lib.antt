@@ -1,0 +1,14 @@
+pub mod Folds
+pub mod Taking
+pub mod Operands
+pub mod Operators
+pub mod Names
+pub mod ReadLists
+pub mod Expressions
+pub mod Simple
+pub mod Owners
+pub mod Parts
+pub mod Chains
+pub mod Statements
+pub mod Programs
+pub mod Rows
