@@ -1,11 +1,22 @@
 //! The program `parlab`: the words of its command line, the real files and the two standard streams,
 //! handed to the top call, and the status that it answers.
+//!
+//! No clause can say what the real files and streams take and give. So `carry` stands between, over any: its
+//! contract is that of the top call, and `main` has the real ones made and no more.
 #![tactic(auto)]
 
+ghost use Rattle.std.specs.Prelude.{◌≡◌, ◌<◌, ◌⊎◌};
+ghost use Rattle.std.specs.Process.{exit_status};
+ghost use Rattle.pl_io.specs.Faults.{Rose};
+ghost use Rattle.parlab.specs.Carried.{Says};
+
 use pl_base::{Free, NoMemory, Text, Word};
-use pl_io::{RealFiles, RealSink};
+use pl_io::{Files, RealFiles, RealSink, Sink};
+use std::alloc::Global;
 use std::process::ExitCode;
 use std::rt::Env;
+use std::sync::Wait;
+use std::thread::Threads;
 use std::{env, io};
 
 /// The words behind the program's name. Words that aren't all UTF-8 can't be had from the system here:
@@ -27,6 +38,27 @@ fn words<R: Env + AllocGlobal>(rt: &R) -> Result<Vec<Word>, NoMemory> {
     Ok(words)
 }
 
+/// Carries out the command line over these files, this output and these notes, and answers the status of the top call.
+fn carry<F: Files, K: Sink, N: Sink, R: Threads + Wait + Sync>(
+    rt: &R,
+    alloc: Global,
+    words: &[Word],
+    files: &mut F,
+    out: &mut K,
+    notes: &mut N,
+) -> ExitCode
+    ensures says { Says words.now (F.bytes files.old) (K.written out.old) (K.written out.new) (N.written notes.old) (N.written notes.new) (exit_status result) }
+    ensures quiet { exit_status result ≡ 0 → notes.new ≡ notes.old }
+    ensures silent { (exit_status result ≡ 2) ⊎ (exit_status result ≡ 3) ⊎ (exit_status result ≡ 5) ⊎ (exit_status result ≡ 7) → out.new ≡ out.old }
+    ensures read { exit_status result ≡ 3 → Rose (F.faults files.old) (F.faults files.new) }
+    ensures write { exit_status result ≡ 4 → Rose (K.faults out.old) (K.faults out.new) ⊎ Rose (N.faults notes.old) (N.faults notes.new) }
+    ensures out_grew { K.faults out.old < K.faults out.new → exit_status result ≡ 4 }
+    ensures notes_grew { N.faults notes.old < N.faults notes.new → exit_status result ≡ 4 }
+{
+    let ended = pl_session::top(rt, alloc, words, files, out, notes, &Free);
+    ExitCode::from(ended.status.0)
+}
+
 fn main(rt: HostRuntime) -> ExitCode {
     let Ok(words) = words(&rt) else {
         return ExitCode::from(9);
@@ -34,14 +66,12 @@ fn main(rt: HostRuntime) -> ExitCode {
     let mut files = RealFiles::new(&rt);
     let mut out = RealSink::new(rt.stdout());
     let mut notes = RealSink::new(rt.stderr());
-    let ended = pl_session::top(
+    carry(
         &rt,
         rt.alloc(),
         words.as_slice(),
         &mut files,
         &mut out,
         &mut notes,
-        &Free,
-    );
-    ExitCode::from(ended.status.0)
+    )
 }

@@ -1,5 +1,5 @@
 -- How a script was carried out, by what its world was shown.
-use Rattle.std.proofs.Common.{◌≡◌, ◌∙◌, ℕ, ◌+◌, ◌≤◌, true, Option, Some, None, List, [], ◌++◌, map, take, Result, Ok, Err, refl, sym, ap, subst}
+use Rattle.std.proofs.Common.{◌≡◌, ◌∙◌, ℕ, ◌+◌, true, Option, Some, None, List, [], ◌++◌, map, take, Result, Ok, Err, refl, sym, ap, subst}
 use Rattle.std.specs.Prelude.{min}
 use Rattle.std.specs.Borrow.{GName}
 use Rattle.std.specs.Io.KnownBytes.{Appends}

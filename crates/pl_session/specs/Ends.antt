@@ -42,6 +42,15 @@ Raises script turns choices old new notes_old notes_new =
 abbrev pub PrintsPart : List ℕ → ℕ → List Choice → Option (List ℕ) → Option (List ℕ) → Type 0
 PrintsPart script turns choices old new = (old ≡ new) ⊎ ((o : Outcome) × Runs script turns choices o × AppendsPrefix old new (printed o.shown))
 
+-- the script raised an error, and the sink grew by all that it prints before
+abbrev pub SaysAll : List ℕ → ℕ → List Choice → Option (List ℕ) → Option (List ℕ) → Type 0
+SaysAll script turns choices old new =
+    (o : Outcome) × Runs script turns choices o × ((e : ScriptError) × (o.ending ≡ Raised e [])) × Appends old new (printed o.shown)
+
+-- the script isn't run, for some reason
+abbrev pub IsUnrun : List ℕ → Type 0
+IsUnrun script = (status : ℕ) × ((line : List ℕ) × IsRefused script status line)
+
 -- the sink grew by the line that refuses the script
 abbrev pub WritesRefusal : List ℕ → ℕ → Option (List ℕ) → Option (List ℕ) → Type 0
 WritesRefusal script status old new = (line : List ℕ) × IsRefused script status line × Appends old new line

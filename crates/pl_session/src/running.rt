@@ -7,7 +7,7 @@ ghost use Rattle.pl_errors.specs.Errors.{error_line};
 ghost use Rattle.pl_io.specs.Faults.{Rose};
 ghost use Rattle.pl_io.specs.Told.{AppendsPrefix};
 ghost use Rattle.pl_source.specs.Sources.{Ready, Refuses};
-ghost use Rattle.pl_session.specs.Ends.{Ends, Raises, PrintsPart, NotesPart, WritesRefusal};
+ghost use Rattle.pl_session.specs.Ends.{Ends, Raises, PrintsPart, NotesPart, SaysAll, IsUnrun, WritesRefusal};
 
 use crate::carrying::{Carried, Fate, carry_out};
 use crate::ended::{Ended, Limits, end_with};
@@ -64,6 +64,9 @@ fn run_ready<K: Sink, N: Sink>(
     ensures cause { result.status.0 ≡ 4 → Rose (K.faults out.old) (K.faults out.new) ⊎ Rose (N.faults notes.old) (N.faults notes.new) }
     ensures out_grew { K.faults out.old < K.faults out.new → result.status.0 ≡ 4 }
     ensures notes_grew { N.faults notes.old < N.faults notes.new → result.status.0 ≡ 4 }
+    ensures stopped { K.faults out.old < K.faults out.new → notes.new ≡ notes.old }
+    ensures memory { result.status.0 ≡ 9 → notes.new ≡ notes.old }
+    ensures said { result.status.0 ≡ 4 → Rose (K.faults out.old) (K.faults out.new) ⊎ SaysAll script limits.turns result.journal.entries (K.written out.old) (K.written out.new) }
     ensures script { result.script ≡ script }
     ensures journal { result.journal ≡ record { version = 1; workers = limits.workers; turns = limits.turns; entries = result.journal.entries } }
 {
@@ -91,6 +94,7 @@ fn end_with_refusal<N: Sink>(
     ensures notes_part { result.status.0 ≡ 4 → NotesPart script limits.turns result.journal.entries (N.written notes.old) (N.written notes.new) }
     ensures cause { result.status.0 ≡ 4 → Rose (N.faults notes.old) (N.faults notes.new) }
     ensures grew { N.faults notes.old < N.faults notes.new → result.status.0 ≡ 4 }
+    ensures unrun { IsUnrun script }
     ensures script { result.script ≡ script }
     ensures journal { result.journal ≡ record { version = 1; workers = limits.workers; turns = limits.turns; entries = [] } }
 {
@@ -124,6 +128,9 @@ pub(crate) fn run_source<K: Sink, N: Sink>(
     ensures cause { result.status.0 ≡ 4 → Rose (K.faults out.old) (K.faults out.new) ⊎ Rose (N.faults notes.old) (N.faults notes.new) }
     ensures out_grew { K.faults out.old < K.faults out.new → result.status.0 ≡ 4 }
     ensures notes_grew { N.faults notes.old < N.faults notes.new → result.status.0 ≡ 4 }
+    ensures stopped { K.faults out.old < K.faults out.new → notes.new ≡ notes.old }
+    ensures memory { result.status.0 ≡ 9 → notes.new ≡ notes.old }
+    ensures said { result.status.0 ≡ 4 → Rose (K.faults out.old) (K.faults out.new) ⊎ SaysAll source.items limits.turns result.journal.entries (K.written out.old) (K.written out.new) ⊎ ((out.new ≡ out.old) × IsUnrun source.items) }
     ensures script { result.script ≡ source.items }
     ensures journal { result.journal ≡ record { version = 1; workers = limits.workers; turns = limits.turns; entries = result.journal.entries } }
     ensures no_choice { (result.status.0 ≡ 5) ⊎ (result.status.0 ≡ 7) → result.journal.entries ≡ [] }

@@ -6,7 +6,7 @@ ghost use Rattle.pl_io.specs.Faults.{Rose};
 ghost use Rattle.pl_io.specs.Told.{Stays, AppendsPrefix};
 ghost use Rattle.pl_session.specs.Words.{Command as Order, command_of as command_in};
 ghost use Rattle.pl_session.specs.Lines.{usage_line, cannot_read_line};
-ghost use Rattle.pl_session.specs.Ends.{Ends, Raises, PrintsPart, WritesRefusal, LinePart, journal_of};
+ghost use Rattle.pl_session.specs.Ends.{Ends, Raises, PrintsPart, SaysAll, IsUnrun, WritesRefusal, LinePart, journal_of};
 
 use crate::ended::{Ended, Limits, end_with};
 use crate::notes::{cannot_read, close};
@@ -49,6 +49,9 @@ fn run_file<F: Files, K: Sink, N: Sink>(
     ensures cause { result.status.0 ≡ 4 → Rose (K.faults out.old) (K.faults out.new) ⊎ Rose (N.faults notes.old) (N.faults notes.new) }
     ensures out_grew { K.faults out.old < K.faults out.new → result.status.0 ≡ 4 }
     ensures notes_grew { N.faults notes.old < N.faults notes.new → result.status.0 ≡ 4 }
+    ensures stopped { K.faults out.old < K.faults out.new → notes.new ≡ notes.old }
+    ensures memory { result.status.0 ≡ 9 → notes.new ≡ notes.old }
+    ensures said { result.status.0 ≡ 4 → Rose (K.faults out.old) (K.faults out.new) ⊎ SaysAll result.script limits.turns result.journal.entries (K.written out.old) (K.written out.new) ⊎ ((out.new ≡ out.old) × (IsUnrun result.script ⊎ Rose (F.faults files.old) (F.faults files.new))) }
     ensures script { (result.status.0 ≡ 0) ⊎ (result.status.0 ≡ 1) ⊎ (result.status.0 ≡ 5) ⊎ (result.status.0 ≡ 7) → IfSome (F.bytes files.old name.now) (λ bytes. result.script ≡ take 1000001 bytes) }
     ensures script_part { IfSome (F.bytes files.old name.now) (λ bytes. (result.script ≡ []) ⊎ (result.script ≡ take 1000001 bytes)) }
     ensures no_script { result.status.0 ≡ 3 → result.script ≡ [] }
@@ -72,7 +75,7 @@ fn run_file<F: Files, K: Sink, N: Sink>(
 }
 
 /// Runs what the words ask for: `run FILE`, with its options. `rt` is the runtime under which calls may wait and
-/// start threads, and `gate` is told of each job; a script without loops over workers does neither.
+/// start threads, and `gate` is to be told of each job; nothing that is built so far does either.
 ///
 /// The status is 0 where the script ended, 1 where it raised an error, 2 where the words are no command, 3 where
 /// the file can't be read, 4 where a write failed, 5 where the source is no program or uses what isn't built, 7
@@ -120,15 +123,23 @@ pub fn top<F: Files, K: Sink, N: Sink, G: Gate, R: Threads + Wait + Sync>(
     ensures usage_part { command_in words.now ≡ None → result.status.0 ≡ 4 → AppendsPrefix (N.written notes.old) (N.written notes.new) usage_line }
     ensures notes_part { (command : Order) → command_in words.now ≡ Some command → (result.status.0 ≡ 4) ⊎ (result.status.0 ≡ 9) → LinePart command.name result.script result.journal.turns result.journal.entries (N.written notes.old) (N.written notes.new) }
 
+    // A call stops at its first write fault: behind one on the output nothing goes to the notes; where only the notes failed,
+    // the output has all that the script prints, or the script wasn't run. Where memory was wanting the notes are as they were.
+    ensures stopped { K.faults out.old < K.faults out.new → notes.new ≡ notes.old }
+    ensures memory { result.status.0 ≡ 9 → notes.new ≡ notes.old }
+    ensures said { (command : Order) → command_in words.now ≡ Some command → result.status.0 ≡ 4 → Rose (K.faults out.old) (K.faults out.new) ⊎ SaysAll result.script result.journal.turns result.journal.entries (K.written out.old) (K.written out.new) ⊎ ((out.new ≡ out.old) × (IsUnrun result.script ⊎ Rose (F.faults files.old) (F.faults files.new))) }
+
     // The script is the file's bytes, of too long a file the first 1,000,001, and empty where none was read.
     ensures script { (command : Order) (bytes : List ℕ) → command_in words.now ≡ Some command → F.bytes files.old command.name ≡ Some bytes → (result.status.0 ≡ 0) ⊎ (result.status.0 ≡ 1) ⊎ (result.status.0 ≡ 5) ⊎ (result.status.0 ≡ 7) → result.script ≡ take 1000001 bytes }
     ensures script_part { (command : Order) (bytes : List ℕ) → command_in words.now ≡ Some command → F.bytes files.old command.name ≡ Some bytes → (result.script ≡ []) ⊎ (result.script ≡ take 1000001 bytes) }
     ensures no_script { (result.status.0 ≡ 2) ⊎ (result.status.0 ≡ 3) → result.script ≡ [] }
+    ensures no_script_of_usage { command_in words.now ≡ None → result.script ≡ [] }
     ensures told { Stays (F.bytes files.old) (F.bytes files.new) }
 
     // The journal has the choices of the run, and the command's limits, or the default ones; what isn't run made no choice.
     ensures journal { result.journal ≡ journal_of (command_in words.now) result.journal.entries }
     ensures no_choice { (result.status.0 ≡ 2) ⊎ (result.status.0 ≡ 3) ⊎ (result.status.0 ≡ 5) ⊎ (result.status.0 ≡ 7) → result.journal.entries ≡ [] }
+    ensures no_choice_of_usage { command_in words.now ≡ None → result.journal.entries ≡ [] }
 {
     match command_of(words) {
         Some(command) => {

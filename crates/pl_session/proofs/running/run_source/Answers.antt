@@ -1,5 +1,5 @@
-use Rattle.std.proofs.Common.{ℕ, List, inl, inr, subst}
-use Rattle.pl_session.specs.Ends.{PrintsPart, NotesPart, WritesRefusal}
+use Rattle.std.proofs.Common.{ℕ, List, inl, inr, refl, subst}
+use Rattle.pl_session.specs.Ends.{PrintsPart, NotesPart, SaysAll, IsUnrun, WritesRefusal}
 use Rattle.pl_session.proofs.Refused.{no_nine}
 use Rattle.pl_session.proofs.running.run_source.Goals as goal
 
@@ -19,3 +19,13 @@ pub returns-in-Err-Is-clause-notes_part : goal.returns-in-Err-Is-clause-notes_pa
 returns-in-Err-Is-clause-notes_part g c = λ ends.
     subst (λ (s : List ℕ). NotesPart s c.args.limits.turns c.end_with_refusal.result.journal.entries (g.N.Sink.written c.args.notes.now) (g.N.Sink.written c.end_with_refusal.new.notes)) c.of-script.ensures
     (c.end_with_refusal.ensures.notes_part (elim ends [ inl four ↦ four | inr nine ↦ absurd (no_nine c.end_with_refusal.result.status.0 c.end_with_refusal.ensures.statuses nine) ]))
+
+pub returns-in-Ok-clause-said : goal.returns-in-Ok-clause-said
+returns-in-Ok-clause-said g c = λ ends.
+    elim (c.run_ready.ensures.said ends) [
+      | inl rose ↦ inl rose
+      | inr says ↦ inr (inl (subst (λ (s : List ℕ). SaysAll s c.args.limits.turns c.run_ready.result.journal.entries (g.K.Sink.written c.args.out.now) (g.K.Sink.written c.run_ready.new.out)) c.of-script.ensures says))
+    ]
+
+pub returns-in-Err-Is-clause-said : goal.returns-in-Err-Is-clause-said
+returns-in-Err-Is-clause-said g c = λ ends. inr (inr (refl, subst IsUnrun c.of-script.ensures c.end_with_refusal.ensures.unrun))

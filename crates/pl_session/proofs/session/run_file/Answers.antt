@@ -1,6 +1,6 @@
 use Rattle.std.proofs.Common.{rules, ℕ, List, inl, inr, refl, subst, sym}
 use Rattle.pl_session.specs.Lines.{too_long_line}
-use Rattle.pl_session.specs.Ends.{Ends, Raises, PrintsPart, NotesPart, WritesRefusal}
+use Rattle.pl_session.specs.Ends.{Ends, Raises, PrintsPart, NotesPart, SaysAll, IsUnrun, WritesRefusal}
 use Rattle.pl_session.proofs.Refused.{whole_taken, part_taken, not_nine}
 use Rattle.pl_session.proofs.session.run_file.Goals as goal
 
@@ -37,3 +37,14 @@ pub returns-in-Err-Is-TooLong-clause-notes_part : goal.returns-in-Err-Is-TooLong
 returns-in-Err-Is-TooLong-clause-notes_part g c = λ ends.
     inl (subst (λ (script : List ℕ). NotesPart script c.args.limits.turns c.close.result.journal.entries (g.N.Sink.written c.args.notes.now) (g.N.Sink.written c.close.new.notes)) (sym c.close.ensures.script)
     (inr (too_long_line, inl (5, inl (search rules, refl, refl)), c.close.ensures.part (elim ends [ inl four ↦ four | inr nine ↦ absurd (not_nine c.close.result.status.0 c.close.ensures.statuses nine) ]))))
+
+pub returns-in-Ok-clause-said : goal.returns-in-Ok-clause-said
+returns-in-Ok-clause-said g c = λ ends.
+    elim (c.run_source.ensures.said ends) [
+      | inl rose ↦ inl rose
+      | inr (inl says) ↦ inr (inl (subst (λ (script : List ℕ). SaysAll script c.args.limits.turns c.run_source.result.journal.entries (g.K.Sink.written c.args.out.now) (g.K.Sink.written c.run_source.new.out)) (sym c.run_source.ensures.script) says))
+      | inr (inr (same, unrun)) ↦ inr (inr (same, inl (subst IsUnrun (sym c.run_source.ensures.script) unrun)))
+    ]
+
+pub returns-in-Err-Is-TooLong-clause-said : goal.returns-in-Err-Is-TooLong-clause-said
+returns-in-Err-Is-TooLong-clause-said g c = λ ends. inr (inr (refl, inl (subst IsUnrun (sym c.close.ensures.script) (5, (too_long_line, inl (search rules, refl, refl))))))

@@ -1,4 +1,4 @@
-use Rattle.std.proofs.Common.{rules, ◌≡◌, List, ◌∷◌, Some}
+use Rattle.std.proofs.Common.{rules, ◌≡◌, ◌∷◌, Some}
 use Rattle.pl_session.specs.Words as spec
 use Rattle.pl_session.proofs.words.+options_from.Goals as goal
 

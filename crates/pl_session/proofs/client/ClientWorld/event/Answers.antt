@@ -1,4 +1,4 @@
-use Rattle.std.proofs.Common.{rules, refl}
+use Rattle.std.proofs.Common.{rules}
 use Rattle.pl_session.proofs.Carried.{stopped_so}
 use Rattle.pl_session.proofs.client.ClientWorld.event.Goals as goal
 
