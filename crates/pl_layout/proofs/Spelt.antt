@@ -20,7 +20,8 @@ use Rattle.pl_lex.specs.Scan.{word, sign, outside}
 use Rattle.pl_terminals.specs.Signs.{keyword, later_keyword}
 use Rattle.pl_terminals.specs.Terminals.{word_of, unquoted}
 use Rattle.pl_terminals.proofs.Undone.{numbers}
-use Rattle.pl_layout.specs.Layout.{quoted, operator_bytes, keyword_bytes, written}
+use Rattle.pl_syntax.specs.Signs.{binary_sign}
+use Rattle.pl_layout.specs.Layout.{quoted, keyword_bytes, written}
 use Rattle.pl_layout.specs.Shown.{Before, IsNumber, IsWord, in_line, OperatorStays, Stays, QuoteFits, beyond}
 use Rattle.pl_layout.proofs.Parts.{Part, Brackets, Last, name_part, keyword_part, literal_part, chars_part, sign_part, line_part}
 use Rattle.pl_layout.proofs.Decimals.{digits, Digits, decimals}
@@ -177,7 +178,7 @@ pub line_end : (rest : List ℕ) (s : Brackets) (l : Last) (g f : Bool) → Spel
 unfolding behind class_of outside
 line_end rest s l g f = record { part = line_part; kind = kind.LineEnd; first = 10; others = []; spells = refl; unmarked = refl; solid = refl; fits = refl; is = refl; means = refl; leaves = refl }
 
-pub operator : (o : Bin) (rest : List ℕ) (s : Brackets) (l : Last) (g f : Bool) → OperatorStays o rest → Spelt (w.Binary o) (operator_bytes o) rest (calm s l g f)
+pub operator : (o : Bin) (rest : List ℕ) (s : Brackets) (l : Last) (g f : Bool) → OperatorStays o rest → Spelt (w.Binary o) (binary_sign o) rest (calm s l g f)
 unfolding behind class_of sign
 operator bin.Add rest s l g f h = record { part = sign_part; kind = kind.Sign; first = 43; others = []; spells = refl; unmarked = refl; solid = refl; fits = (refl, refl, refl); is = refl; means = refl; leaves = refl }
 operator bin.Sub rest s l g f h = record { part = sign_part; kind = kind.Sign; first = 45; others = []; spells = refl; unmarked = refl; solid = refl; fits = (refl, refl, refl); is = refl; means = refl; leaves = refl }

@@ -1,8 +1,7 @@
 -- How terminals are laid out as text: the bytes of each word, and the white space before it.
 use Rattle.std.specs.Prelude.{ℕ, suc, zero, ◌+◌, ◌-◌, Bool, true, false, ◌&&◌, ◌||◌, ◌==◌, if◌then◌else◌, List, [], ◌∷◌, ◌++◌, codes}
 use Rattle.std.specs.Fmt.{signed_decimal}
-use Rattle.pl_syntax.specs.declared.expr.Bin.{Bin}
-use Rattle.pl_syntax.specs.declared.expr.Bin.TheVariants as bin
+use Rattle.pl_syntax.specs.Signs.{binary_sign}
 use Rattle.pl_grammar.specs.declared.terminal.Terminal.{Terminal}
 use Rattle.pl_grammar.specs.declared.terminal.Word.{Word}
 use Rattle.pl_grammar.specs.declared.terminal.Word.TheVariants as w
@@ -11,26 +10,6 @@ use Rattle.pl_grammar.specs.declared.terminal.Keyword.TheVariants as k
 use Rattle.pl_grammar.specs.Words.{is_link}
 
 -- ---- words
-
-abbrev pub operator_bytes : Bin → List ℕ
-operator_bytes bin.Add = codes "+"
-operator_bytes bin.Sub = codes "-"
-operator_bytes bin.Mul = codes "*"
-operator_bytes bin.Div = codes "/"
-operator_bytes bin.Pow = codes "^"
-operator_bytes bin.DotMul = codes ".*"
-operator_bytes bin.DotDiv = codes "./"
-operator_bytes bin.DotPow = codes ".^"
-operator_bytes bin.Lt = codes "<"
-operator_bytes bin.Le = codes "<="
-operator_bytes bin.Gt = codes ">"
-operator_bytes bin.Ge = codes ">="
-operator_bytes bin.Eq = codes "=="
-operator_bytes bin.Ne = codes "~="
-operator_bytes bin.And = codes "&"
-operator_bytes bin.Or = codes "|"
-operator_bytes bin.AndAlso = codes "&&"
-operator_bytes bin.OrElse = codes "||"
 
 abbrev pub keyword_bytes : Keyword → List ℕ
 keyword_bytes k.Break = codes "break"
@@ -69,7 +48,7 @@ abbrev pub written : Bool → Word → List ℕ
 written behind_text (w.Name text) = text
 written behind_text (w.Chars text) = 39 ∷ quoted text
 written behind_text (w.Number z) = signed_decimal z
-written behind_text (w.Binary o) = operator_bytes o
+written behind_text (w.Binary o) = binary_sign o
 written behind_text w.Not = codes "~"
 written behind_text w.Quote = transposing behind_text
 written behind_text w.Equal = codes "="

@@ -6,7 +6,7 @@ ghost use Rattle.pl_layout.specs.Layout as layout;
 ghost use Rattle.pl_print.specs.Pages.{Writes, first_page, word_of};
 ghost use Rattle.pl_printing.specs.Canonical.{terminal, apart, key, line_end};
 
-use crate::words::{is_end, is_link, keyword_bytes, opens_block, operator_bytes};
+use crate::words::{is_end, is_link, keyword_bytes, opens_block};
 use itoa::Buffer;
 use pl_base::{NoMemory, Text};
 use pl_grammar::Keyword;
@@ -103,7 +103,7 @@ impl Page {
     pub fn operator(&mut self, operator: Bin) -> Result<(), NoMemory>
         ensures { OnOk result (Writes self.old self.new (λ rest. apart (w.Binary operator) ∷ rest)) }
     {
-        self.plain(true, operator_bytes(operator))
+        self.plain(true, operator.sign())
     }
 
     #[tactic(auto, using(crate::proofs::Grows::wrote))]

@@ -5,32 +5,6 @@ ghost use Rattle.pl_grammar.specs.Words as words;
 ghost use Rattle.pl_layout.specs.Layout as layout;
 
 use pl_grammar::Keyword;
-use pl_syntax::Bin;
-
-pub fn operator_bytes(operator: Bin) -> &'static [u8]
-    ensures { result.now ≡ layout.operator_bytes operator }
-{
-    match operator {
-        Bin::Add => b"+",
-        Bin::Sub => b"-",
-        Bin::Mul => b"*",
-        Bin::Div => b"/",
-        Bin::Pow => b"^",
-        Bin::DotMul => b".*",
-        Bin::DotDiv => b"./",
-        Bin::DotPow => b".^",
-        Bin::Lt => b"<",
-        Bin::Le => b"<=",
-        Bin::Gt => b">",
-        Bin::Ge => b">=",
-        Bin::Eq => b"==",
-        Bin::Ne => b"~=",
-        Bin::And => b"&",
-        Bin::Or => b"|",
-        Bin::AndAlso => b"&&",
-        Bin::OrElse => b"||",
-    }
-}
 
 pub fn keyword_bytes(word: Keyword) -> &'static [u8]
     ensures { result.now ≡ layout.keyword_bytes word }

@@ -7,6 +7,7 @@
 #![tactic(auto)]
 
 mod expr;
+mod signs;
 mod stmt;
 
 pub use expr::{Bin, Expr, ExprKind, Name, Un};
