@@ -39,23 +39,23 @@ begins_less (Some ts) None more b = b
 begins_less (Some ts) (Some told) more b = less told more ts b
 
 -- an event was told
-pub told : (e : Event) (env : Workspace) (turns : ℕ) (old new : Log) → new ≡ record old { shown = grown old.shown (shows e) } →
-    Went (tell e) (record { env = env; turns = turns; log = old }) tt (record { env = env; turns = turns; log = new })
+pub told : (e : Event) (env : Workspace) (turns calls : ℕ) (old new : Log) → new ≡ record old { shown = grown old.shown (shows e) } →
+    Went (tell e) (record { env = env; turns = turns; calls = calls; log = old }) tt (record { env = env; turns = turns; calls = calls; log = new })
 unfolding tell
-told e env turns old new is =
-    rw is (λ k h all b. ap (λ (shown : Option (List Trace)). record { shown = shown; ending = (k tt (record { env = env; turns = turns; choices = drop (length old.given) all; rules = old.rules })).ending; stops = old.stops; rose = false; sink = old.sink }) (grown_twice old.shown (shows e) (k tt (record { env = env; turns = turns; choices = drop (length old.given) all; rules = old.rules })).shown))
+told e env turns calls old new is =
+    rw is (λ k h all b. ap (λ (shown : Option (List Trace)). record { shown = shown; ending = (k tt (record { env = env; turns = turns; calls = calls; choices = drop (length old.given) all; rules = old.rules })).ending; stops = old.stops; rose = false; sink = old.sink }) (grown_twice old.shown (shows e) (k tt (record { env = env; turns = turns; calls = calls; choices = drop (length old.given) all; rules = old.rules })).shown))
 
 -- the world stopped, and was told a first part
-pub told_part : (e : Event) (env : Workspace) (turns : ℕ) (old new : Log) (n m : ℕ) → rose old.stops m ≡ true → new ≡ record old { shown = grown old.shown (take n (shows e)); stops = m } →
-    Halts (tell e) (record { env = env; turns = turns; log = old }) Halt.Stopped (record { env = env; turns = turns; log = new })
+pub told_part : (e : Event) (env : Workspace) (turns calls : ℕ) (old new : Log) (n m : ℕ) → rose old.stops m ≡ true → new ≡ record old { shown = grown old.shown (take n (shows e)); stops = m } →
+    Halts (tell e) (record { env = env; turns = turns; calls = calls; log = old }) Halt.Stopped (record { env = env; turns = turns; calls = calls; log = new })
 unfolding tell
-told_part e env turns old new n m up is =
+told_part e env turns calls old new n m up is =
     rw is (λ k h all b.
-    ap (λ (shown : Option (List Trace)). record { shown = shown; ending = Done [] []; stops = m; rose = rose old.stops m; sink = old.sink }) (first_part old.shown n (shows e) (k tt (record { env = env; turns = turns; choices = drop (length old.given) all; rules = old.rules })).shown)
+    ap (λ (shown : Option (List Trace)). record { shown = shown; ending = Done [] []; stops = m; rose = rose old.stops m; sink = old.sink }) (first_part old.shown n (shows e) (k tt (record { env = env; turns = turns; calls = calls; choices = drop (length old.given) all; rules = old.rules })).shown)
     ∙ ap (λ (up : Bool). record { shown = grown old.shown (take n (shows e)); ending = Done [] []; stops = m; rose = up; sink = old.sink }) up)
 
 -- what was given and shown stays given and shown
-pub keeps : (env : Workspace) (turns : ℕ) (old new : Log) (more : List Trace) (m : ℕ) → new ≡ record old { shown = grown old.shown more; stops = m } →
-    Keeps (record { env = env; turns = turns; log = old }) (record { env = env; turns = turns; log = new })
-keeps env turns old new more m is =
+pub keeps : (env : Workspace) (turns calls : ℕ) (old new : Log) (more : List Trace) (m : ℕ) → new ≡ record old { shown = grown old.shown more; stops = m } →
+    Keeps (record { env = env; turns = turns; calls = calls; log = old }) (record { env = env; turns = turns; calls = calls; log = new })
+keeps env turns calls old new more m is =
     rw is ((λ all b. b), (λ ts b. begins_less ts old.shown more b))

@@ -7,10 +7,14 @@ ghost use Rattle.pl_meaning.specs.Promises.{Went, Halts, Keeps, at};
 ghost use Rattle.pl_meaning.specs.Running.{ask as asking};
 
 use pl_base::Or;
-use pl_meaning::{Answer, Halt, Loop, Memory, World};
+use pl_meaning::{Answer, Halt, Memory, Question, World};
 
 /// Asks the world a question.
-pub fn ask<W: World>(memory: &Memory<'_>, world: &mut W, question: Loop<'_>) -> Result<Answer, Halt>
+pub fn ask<W: World>(
+    memory: &Memory<'_>,
+    world: &mut W,
+    question: Question<'_>,
+) -> Result<Answer, Halt>
     ensures ok { IfOk result (λ answer. Went (asking (question_of question.entry)) (at memory.now (W.log world.old)) answer (at memory.now (W.log world.new))) }
     ensures err { (x : Halt) → result ≡ Err x → Halts (asking (question_of question.entry)) (at memory.now (W.log world.old)) x (at memory.now (W.log world.new)) }
     ensures keeps { Keeps (at memory.now (W.log world.old)) (at memory.now (W.log world.new)) }

@@ -55,8 +55,8 @@ fn bounds(first: &Value, last: &Value) -> Result<Bounds, ErrKind>
 
 /// The index between two values; a refusal is an error at a place.
 pub fn bounds_at(alloc: Global, place: Place, first: &Value, last: &Value) -> Result<Bounds, Halt>
-    ensures ok { IfOk result (λ b. (env : Workspace) (turns : ℕ) (l : Log) → Went (settling place (bounds_of first.now last.now)) (record { env = env; turns = turns; log = l }) b (record { env = env; turns = turns; log = l })) }
-    ensures err { (x : Halt) → result ≡ Err x → (env : Workspace) (turns : ℕ) (l : Log) → Halts (settling place (bounds_of first.now last.now)) (record { env = env; turns = turns; log = l }) x (record { env = env; turns = turns; log = l }) }
+    ensures ok { IfOk result (λ b. (env : Workspace) (turns calls : ℕ) (l : Log) → Went (settling place (bounds_of first.now last.now)) (record { env = env; turns = turns; calls = calls; log = l }) b (record { env = env; turns = turns; calls = calls; log = l })) }
+    ensures err { (x : Halt) → result ≡ Err x → (env : Workspace) (turns calls : ℕ) (l : Log) → Halts (settling place (bounds_of first.now last.now)) (record { env = env; turns = turns; calls = calls; log = l }) x (record { env = env; turns = turns; calls = calls; log = l }) }
 {
     match bounds(first, last) {
         Ok(bounds) => Ok(bounds),

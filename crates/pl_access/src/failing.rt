@@ -52,8 +52,8 @@ macro_rules! decided {
 
 /// The array of a value; any other value is an error at a place.
 pub fn array_at(alloc: Global, place: Place, v: &Value) -> Result<&Arr, Halt>
-    ensures ok { IfOk result (λ a. (env : Workspace) (turns : ℕ) (l : Log) → Went (settling place (array_in v.now)) (record { env = env; turns = turns; log = l }) a.now (record { env = env; turns = turns; log = l })) }
-    ensures err { (x : Halt) → result ≡ Err x → (env : Workspace) (turns : ℕ) (l : Log) → Halts (settling place (array_in v.now)) (record { env = env; turns = turns; log = l }) x (record { env = env; turns = turns; log = l }) }
+    ensures ok { IfOk result (λ a. (env : Workspace) (turns calls : ℕ) (l : Log) → Went (settling place (array_in v.now)) (record { env = env; turns = turns; calls = calls; log = l }) a.now (record { env = env; turns = turns; calls = calls; log = l })) }
+    ensures err { (x : Halt) → result ≡ Err x → (env : Workspace) (turns calls : ℕ) (l : Log) → Halts (settling place (array_in v.now)) (record { env = env; turns = turns; calls = calls; log = l }) x (record { env = env; turns = turns; calls = calls; log = l }) }
 {
     match array_of(v) {
         Ok(a) => Ok(a),

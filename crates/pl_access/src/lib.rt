@@ -11,6 +11,7 @@
 mod access;
 mod asking;
 mod bounding;
+mod extras;
 mod failing;
 mod storing;
 mod telling;
@@ -18,6 +19,7 @@ mod telling;
 pub use access::{check, erase_part, read, read_end, read_part, take_turn, write, write_part};
 pub use asking::ask;
 pub use bounding::bounds_at;
+pub use extras::extra;
 pub use failing::{array_at, fail};
 pub use pl_base::Or;
 pub use pl_meaning::Halt;

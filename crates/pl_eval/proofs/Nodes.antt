@@ -77,11 +77,11 @@ pub compound_apply : (program : Resolved) (d : Level) (f : Frame) (e : Expr) (n 
 unfolding compound
 compound_apply program d f e n es is = ap (compound_of program d f e.place) (ap out-ExprKind is ∙ outs-Apply n es)
 
-pub compound_unary : (program : Resolved) (d : Level) (f : Frame) (e : Expr) (op : Un) (a : Expr) → e.kind ≡ expr.Unary op a → compound program d f e ≡ unary program.mode d.value f e.place op a
+pub compound_unary : (program : Resolved) (d : Level) (f : Frame) (e : Expr) (op : Un) (a : Expr) → e.kind ≡ expr.Unary op a → compound program d f e ≡ unary program d.value f e.place op a
 unfolding compound
 compound_unary program d f e op a is = ap (compound_of program d f e.place) (ap out-ExprKind is ∙ outs-Unary op a)
 
-pub compound_binary : (program : Resolved) (d : Level) (f : Frame) (e : Expr) (op : Bin) (a : Expr) (b : Expr) → e.kind ≡ expr.Binary op a b → compound program d f e ≡ operated program.mode d.value f e.place op a b
+pub compound_binary : (program : Resolved) (d : Level) (f : Frame) (e : Expr) (op : Bin) (a : Expr) (b : Expr) → e.kind ≡ expr.Binary op a b → compound program d f e ≡ operated program d.value f e.place op a b
 unfolding compound
 compound_binary program d f e op a b is = ap (compound_of program d f e.place) (ap out-ExprKind is ∙ outs-Binary op a b)
 
@@ -177,13 +177,13 @@ pub ends_range : (program : Resolved) (l : Option Level) (f : Frame) (e : Expr) 
 unfolding ends_in
 ends_range program l f e a w b is = ap (ends_at program l f e.place) (ap out-ExprKind is ∙ outs-Range a w b) ∙ range_cases program l f e.place a w b
 
-pub call_found : (program : Resolved) (l : Option Level) (place : Place) (i : ℕ) (nout : ℕ) (vs : List Value) (g : Function) → slice_get program.program.functions i ≡ Some g → call_in program l place i nout vs ≡ counted_call program l (frame_of program i (length vs) nout) place g vs
+pub call_found : (program : Resolved) (l : Option Level) (client : Bool) (place : Place) (i : ℕ) (nout : ℕ) (vs : List Value) (g : Function) → slice_get program.program.functions i ≡ Some g → call_in program l client place i nout vs ≡ counted_call program l (frame_of program client i (length vs) nout) place g vs
 unfolding call_in
-call_found program l place i nout vs g is = ap (entered program l place i nout vs) is
+call_found program l client place i nout vs g is = ap (entered program l client place i nout vs) is
 
-pub call_missing : (program : Resolved) (l : Option Level) (place : Place) (i : ℕ) (nout : ℕ) (vs : List Value) → length program.program.functions ≤ i → call_in program l place i nout vs ≡ fail NoValue place
+pub call_missing : (program : Resolved) (l : Option Level) (client : Bool) (place : Place) (i : ℕ) (nout : ℕ) (vs : List Value) → length program.program.functions ≤ i → call_in program l client place i nout vs ≡ fail NoValue place
 unfolding call_in
-call_missing program l place i nout vs past = ap (entered program l place i nout vs) (slice_get_past program.program.functions i past)
+call_missing program l client place i nout vs past = ap (entered program l client place i nout vs) (slice_get_past program.program.functions i past)
 
 pub call_counted : (program : Resolved) (l : Option Level) (f : Frame) (place : Place) (g : Function) (vs : List Value) → (nat_lt (length g.params) (length vs) || nat_lt (length g.outs) f.wanted) ≡ false → counted_call program l f place g vs ≡ begun program l f place g vs
 call_counted program l f place g vs is = ap (λ (b : Bool). if b then fail ArgCount place else begun program l f place g vs) is

@@ -8,9 +8,10 @@ ghost use Rattle.pl_meaning.specs.Names.{slot_of as slot_named};
 ghost use Rattle.pl_meaning.specs.Parts.{below, level_at, value_in, index_or_call, indexed as indexed_part, range as range_part, step_of};
 
 use crate::calling::{applied, first_of};
+use crate::doors::picked;
 use crate::expressions::value;
 use crate::lists::places;
-use pl_access::{check, fail, read_part, settled};
+use pl_access::{check, fail, settled};
 use pl_base::{ErrKind, Place};
 use pl_meaning::{Frame, Halt, Memory, World, slot_of};
 use pl_operators::range;
@@ -78,13 +79,22 @@ fn indexed<W: World>(
     slot: u32,
     list: &[Expr],
 ) -> Result<Value, Halt>
-    ensures ok { IfOk result (λ gained. Went (indexed_part (value_in program.now (below program.now levels)) frame name.now slot list.now) (at memory.old (W.log world.old)) gained (at memory.new (W.log world.new))) }
-    ensures err { (x : Halt) → result ≡ Err x → Halts (indexed_part (value_in program.now (below program.now levels)) frame name.now slot list.now) (at memory.old (W.log world.old)) x (at memory.new (W.log world.new)) }
+    ensures ok { IfOk result (λ gained. Went (indexed_part program.now (value_in program.now (below program.now levels)) frame name.now slot list.now) (at memory.old (W.log world.old)) gained (at memory.new (W.log world.new))) }
+    ensures err { (x : Halt) → result ≡ Err x → Halts (indexed_part program.now (value_in program.now (below program.now levels)) frame name.now slot list.now) (at memory.old (W.log world.old)) x (at memory.new (W.log world.new)) }
     ensures keeps { Keeps (at memory.old (W.log world.old)) (at memory.new (W.log world.new)) }
 {
     check(alloc, memory, world, slot, name.place)?;
     let list = places(alloc, program, levels, frame, memory, world, slot, list)?;
-    read_part(alloc, memory, world, slot, name.place, list.as_slice())
+    picked(
+        alloc,
+        program,
+        frame.client,
+        memory,
+        world,
+        slot,
+        name.place,
+        list.as_slice(),
+    )
 }
 
 /// A range's step, where it has one.

@@ -4,27 +4,29 @@ ghost use Rattle.std.specs.Prelude.{◌≡◌, ℕ, Result, Ok, Err, IfOk};
 ghost use Rattle.pl_meaning.specs.declared.halt.Halt.{Halt};
 ghost use Rattle.pl_meaning.specs.Logs.{Workspace, Log};
 ghost use Rattle.pl_meaning.specs.Promises.{Went, Halts, Keeps, at};
-ghost use Rattle.std.specs.Prelude.{drop, slice_get, None};
+ghost use Rattle.std.specs.Prelude.{◌++◌, drop, slice_get, Some, None};
 ghost use Rattle.pl_resolve.specs.Functions.{function_names};
-ghost use Rattle.pl_meaning.specs.Parts.{handed_value, below, level_at, enter, first_of as first_part, called as called_part, applied as applied_part, call_name as call_name_part, dispatched, by_library, handed as handed_part, fed as fed_part, numbered as numbered_part, by_table as by_table_part, by_known as by_known_part};
+ghost use Rattle.pl_meaning.specs.Known.{known_of};
+ghost use Rattle.pl_meaning.specs.Parts.{handed_value, below, level_at, enter, first_of as first_part, called as called_part, applied as applied_part, call_name as call_name_part, dispatched, known_call, by_library, handed as handed_part, fed as fed_part, numbered as numbered_part, by_table as by_table_part, by_known as by_known_part};
 ghost use Rattle.pl_values.specs.declared.value.Value.{out-Value};
 
+use crate::doors::{call_door, known_named};
 use crate::lists::values;
 use crate::local::call;
 use crate::running::descend;
-use pl_access::fail;
+use pl_access::{extra, fail};
 use pl_base::{ErrKind, Place};
 use pl_library::library;
-use pl_meaning::{Frame, Halt, Known, Memory, World, function_of};
-use pl_resolve::{Resolved, table_name};
+use pl_meaning::{Frame, Halt, Known, Memory, World, function_door, function_of};
+use pl_resolve::{Resolved, name_behind};
 use pl_syntax::{Expr, Name};
 use pl_values::Value;
 use std::alloc::Global;
 
 /// The one output of a call that is used as a value.
 pub(crate) fn first_of(alloc: Global, place: Place, outputs: Vec<Value>) -> Result<Value, Halt>
-    ensures ok { IfOk result (λ gained. (env : Workspace) (turns : ℕ) (l : Log) → Went (first_part place outputs.items) (record { env = env; turns = turns; log = l }) gained (record { env = env; turns = turns; log = l })) }
-    ensures err { (x : Halt) → result ≡ Err x → (env : Workspace) (turns : ℕ) (l : Log) → Halts (first_part place outputs.items) (record { env = env; turns = turns; log = l }) x (record { env = env; turns = turns; log = l }) }
+    ensures ok { IfOk result (λ gained. (env : Workspace) (turns calls : ℕ) (l : Log) → Went (first_part place outputs.items) (record { env = env; turns = turns; calls = calls; log = l }) gained (record { env = env; turns = turns; calls = calls; log = l })) }
+    ensures err { (x : Halt) → result ≡ Err x → (env : Workspace) (turns calls : ℕ) (l : Log) → Halts (first_part place outputs.items) (record { env = env; turns = turns; calls = calls; log = l }) x (record { env = env; turns = turns; calls = calls; log = l }) }
 {
     match outputs.into_iter().next() {
         Some(v) => Ok(v),
@@ -77,40 +79,69 @@ pub(crate) fn applied<W: World>(
     let given = values(
         alloc, program, levels, frame, memory, world, name.place, list,
     )?;
-    call_name(alloc, program, levels, memory, world, name, wanted, given)
+    call_name(
+        alloc,
+        program,
+        levels,
+        frame.client,
+        memory,
+        world,
+        name,
+        wanted,
+        given,
+    )
 }
 
-/// A call by a name: of a local function, or else of a function of the library.
+/// A call by a name: of a local function, or else of one that stands in a table.
 #[cycle(running)]
 #[tactic(auto, unfolding(pl_meaning::specs::Parts::call_name))]
 fn call_name<W: World>(
     alloc: Global,
     program: &Resolved,
     levels: u32,
+    client: bool,
     memory: &mut Memory<'_>,
     world: &mut W,
     name: &Name,
     wanted: usize,
     given: Vec<Value>,
 ) -> Result<Vec<Value>, Halt>
-    ensures ok { IfOk result (λ gained. Went (call_name_part program.now (level_at program.now (below program.now levels)) name.now wanted given.items) (at memory.old (W.log world.old)) gained.items (at memory.new (W.log world.new))) }
-    ensures err { (x : Halt) → result ≡ Err x → Halts (call_name_part program.now (level_at program.now (below program.now levels)) name.now wanted given.items) (at memory.old (W.log world.old)) x (at memory.new (W.log world.new)) }
+    ensures ok { IfOk result (λ gained. Went (call_name_part program.now (level_at program.now (below program.now levels)) client name.now wanted given.items) (at memory.old (W.log world.old)) gained.items (at memory.new (W.log world.new))) }
+    ensures err { (x : Halt) → result ≡ Err x → Halts (call_name_part program.now (level_at program.now (below program.now levels)) client name.now wanted given.items) (at memory.old (W.log world.old)) x (at memory.new (W.log world.new)) }
     ensures keeps { Keeps (at memory.old (W.log world.old)) (at memory.new (W.log world.new)) }
 {
     match function_of(program, &name.text) {
         Some(i) => call(
-            alloc, program, levels, memory, world, name.place, i, wanted, given,
+            alloc, program, levels, client, memory, world, name.place, i, wanted, given,
         ),
+        None => call_named(
+            alloc, program, levels, client, memory, world, name, wanted, given,
+        ),
+    }
+}
+
+/// A call of an extra, or else of a function of the library.
+#[cycle(running)]
+fn call_named<W: World>(
+    alloc: Global,
+    program: &Resolved,
+    levels: u32,
+    client: bool,
+    memory: &mut Memory<'_>,
+    world: &mut W,
+    name: &Name,
+    wanted: usize,
+    given: Vec<Value>,
+) -> Result<Vec<Value>, Halt>
+    ensures ok { IfOk result (λ gained. Went (dispatched program.now (level_at program.now (below program.now levels)) client name.now wanted given.items None (known_of name.now.text)) (at memory.old (W.log world.old)) gained.items (at memory.new (W.log world.new))) }
+    ensures err { (x : Halt) → result ≡ Err x → Halts (dispatched program.now (level_at program.now (below program.now levels)) client name.now wanted given.items None (known_of name.now.text)) (at memory.old (W.log world.old)) x (at memory.new (W.log world.new)) }
+    ensures keeps { Keeps (at memory.old (W.log world.old)) (at memory.new (W.log world.new)) }
+{
+    let known = known_named(&name.text);
+    match call_door(program, client, &name.text, known, &given) {
+        Some(number) => extra(alloc, memory, world, name.place, number, given, wanted),
         None => call_known(
-            alloc,
-            program,
-            levels,
-            memory,
-            world,
-            name.place,
-            Known::of(name.text.bytes()),
-            wanted,
-            given,
+            alloc, program, levels, client, memory, world, name.place, known, wanted, given,
         ),
     }
 }
@@ -121,6 +152,7 @@ fn call_known<W: World>(
     alloc: Global,
     program: &Resolved,
     levels: u32,
+    client: bool,
     memory: &mut Memory<'_>,
     world: &mut W,
     place: Place,
@@ -128,14 +160,14 @@ fn call_known<W: World>(
     wanted: usize,
     given: Vec<Value>,
 ) -> Result<Vec<Value>, Halt>
-    ensures ok { IfOk result (λ gained. Went (dispatched program.now (level_at program.now (below program.now levels)) place wanted given.items None known) (at memory.old (W.log world.old)) gained.items (at memory.new (W.log world.new))) }
-    ensures err { (x : Halt) → result ≡ Err x → Halts (dispatched program.now (level_at program.now (below program.now levels)) place wanted given.items None known) (at memory.old (W.log world.old)) x (at memory.new (W.log world.new)) }
+    ensures ok { IfOk result (λ gained. Went (known_call program.now (level_at program.now (below program.now levels)) client place wanted given.items known) (at memory.old (W.log world.old)) gained.items (at memory.new (W.log world.new))) }
+    ensures err { (x : Halt) → result ≡ Err x → Halts (known_call program.now (level_at program.now (below program.now levels)) client place wanted given.items known) (at memory.old (W.log world.old)) x (at memory.new (W.log world.new)) }
     ensures keeps { Keeps (at memory.old (W.log world.old)) (at memory.new (W.log world.new)) }
 {
     match known {
         None => Err(fail(alloc, ErrKind::WrongPlace, place)),
         Some(f) => call_library(
-            alloc, program, levels, memory, world, place, f, wanted, given,
+            alloc, program, levels, client, memory, world, place, f, wanted, given,
         ),
     }
 }
@@ -146,6 +178,7 @@ fn call_library<W: World>(
     alloc: Global,
     program: &Resolved,
     levels: u32,
+    client: bool,
     memory: &mut Memory<'_>,
     world: &mut W,
     place: Place,
@@ -153,20 +186,22 @@ fn call_library<W: World>(
     wanted: usize,
     given: Vec<Value>,
 ) -> Result<Vec<Value>, Halt>
-    ensures ok { IfOk result (λ gained. Went (by_library program.now (level_at program.now (below program.now levels)) place wanted given.items f) (at memory.old (W.log world.old)) gained.items (at memory.new (W.log world.new))) }
-    ensures err { (x : Halt) → result ≡ Err x → Halts (by_library program.now (level_at program.now (below program.now levels)) place wanted given.items f) (at memory.old (W.log world.old)) x (at memory.new (W.log world.new)) }
+    ensures ok { IfOk result (λ gained. Went (by_library program.now (level_at program.now (below program.now levels)) client place wanted given.items f) (at memory.old (W.log world.old)) gained.items (at memory.new (W.log world.new))) }
+    ensures err { (x : Halt) → result ≡ Err x → Halts (by_library program.now (level_at program.now (below program.now levels)) client place wanted given.items f) (at memory.old (W.log world.old)) x (at memory.new (W.log world.new)) }
     ensures keeps { Keeps (at memory.old (W.log world.old)) (at memory.new (W.log world.new)) }
 {
     match f.is_feval() {
-        true => fed(alloc, program, levels, memory, world, place, wanted, given),
+        true => fed(
+            alloc, program, levels, client, memory, world, place, wanted, given,
+        ),
         false => library(alloc, program.mode, memory, world, place, f, wanted, given),
     }
 }
 
 /// The number of the function that a value is.
 fn function_in(alloc: Global, place: Place, v: &Value) -> Result<u32, Halt>
-    ensures ok { IfOk result (λ gained. (env : Workspace) (turns : ℕ) (l : Log) → Went (handed_value place (out-Value v.now)) (record { env = env; turns = turns; log = l }) gained (record { env = env; turns = turns; log = l })) }
-    ensures err { (x : Halt) → result ≡ Err x → (env : Workspace) (turns : ℕ) (l : Log) → Halts (handed_value place (out-Value v.now)) (record { env = env; turns = turns; log = l }) x (record { env = env; turns = turns; log = l }) }
+    ensures ok { IfOk result (λ gained. (env : Workspace) (turns calls : ℕ) (l : Log) → Went (handed_value place (out-Value v.now)) (record { env = env; turns = turns; calls = calls; log = l }) gained (record { env = env; turns = turns; calls = calls; log = l })) }
+    ensures err { (x : Halt) → result ≡ Err x → (env : Workspace) (turns calls : ℕ) (l : Log) → Halts (handed_value place (out-Value v.now)) (record { env = env; turns = turns; calls = calls; log = l }) x (record { env = env; turns = turns; calls = calls; log = l }) }
 {
     match v {
         Value::Func(i) => Ok(*i),
@@ -184,8 +219,8 @@ fn function_in(alloc: Global, place: Place, v: &Value) -> Result<u32, Halt>
 
 /// The function that a call by a value is handed.
 fn handed(alloc: Global, place: Place, given: &[Value]) -> Result<u32, Halt>
-    ensures ok { IfOk result (λ gained. (env : Workspace) (turns : ℕ) (l : Log) → Went (handed_part place given.now) (record { env = env; turns = turns; log = l }) gained (record { env = env; turns = turns; log = l })) }
-    ensures err { (x : Halt) → result ≡ Err x → (env : Workspace) (turns : ℕ) (l : Log) → Halts (handed_part place given.now) (record { env = env; turns = turns; log = l }) x (record { env = env; turns = turns; log = l }) }
+    ensures ok { IfOk result (λ gained. (env : Workspace) (turns calls : ℕ) (l : Log) → Went (handed_part place given.now) (record { env = env; turns = turns; calls = calls; log = l }) gained (record { env = env; turns = turns; calls = calls; log = l })) }
+    ensures err { (x : Halt) → result ≡ Err x → (env : Workspace) (turns calls : ℕ) (l : Log) → Halts (handed_part place given.now) (record { env = env; turns = turns; calls = calls; log = l }) x (record { env = env; turns = turns; calls = calls; log = l }) }
 {
     match given {
         [] => Err(fail(alloc, ErrKind::ArgCount, place)),
@@ -211,20 +246,21 @@ fn fed<W: World>(
     alloc: Global,
     program: &Resolved,
     levels: u32,
+    client: bool,
     memory: &mut Memory<'_>,
     world: &mut W,
     place: Place,
     wanted: usize,
     given: Vec<Value>,
 ) -> Result<Vec<Value>, Halt>
-    ensures ok { IfOk result (λ gained. Went (fed_part program.now (level_at program.now (below program.now levels)) place wanted given.items) (at memory.old (W.log world.old)) gained.items (at memory.new (W.log world.new))) }
-    ensures err { (x : Halt) → result ≡ Err x → Halts (fed_part program.now (level_at program.now (below program.now levels)) place wanted given.items) (at memory.old (W.log world.old)) x (at memory.new (W.log world.new)) }
+    ensures ok { IfOk result (λ gained. Went (fed_part program.now (level_at program.now (below program.now levels)) client place wanted given.items) (at memory.old (W.log world.old)) gained.items (at memory.new (W.log world.new))) }
+    ensures err { (x : Halt) → result ≡ Err x → Halts (fed_part program.now (level_at program.now (below program.now levels)) client place wanted given.items) (at memory.old (W.log world.old)) x (at memory.new (W.log world.new)) }
     ensures keeps { Keeps (at memory.old (W.log world.old)) (at memory.new (W.log world.new)) }
 {
     let i = handed(alloc, place, given.as_slice())?;
     let given = behind_first(given);
     numbered(
-        alloc, program, levels, memory, world, place, i as usize, wanted, given,
+        alloc, program, levels, client, memory, world, place, i as usize, wanted, given,
     )
 }
 
@@ -235,6 +271,7 @@ fn numbered<W: World>(
     alloc: Global,
     program: &Resolved,
     levels: u32,
+    client: bool,
     memory: &mut Memory<'_>,
     world: &mut W,
     place: Place,
@@ -242,19 +279,20 @@ fn numbered<W: World>(
     wanted: usize,
     given: Vec<Value>,
 ) -> Result<Vec<Value>, Halt>
-    ensures ok { IfOk result (λ gained. Went (numbered_part program.now (level_at program.now (below program.now levels)) place i wanted given.items) (at memory.old (W.log world.old)) gained.items (at memory.new (W.log world.new))) }
-    ensures err { (x : Halt) → result ≡ Err x → Halts (numbered_part program.now (level_at program.now (below program.now levels)) place i wanted given.items) (at memory.old (W.log world.old)) x (at memory.new (W.log world.new)) }
+    ensures ok { IfOk result (λ gained. Went (numbered_part program.now (level_at program.now (below program.now levels)) client place i wanted given.items) (at memory.old (W.log world.old)) gained.items (at memory.new (W.log world.new))) }
+    ensures err { (x : Halt) → result ≡ Err x → Halts (numbered_part program.now (level_at program.now (below program.now levels)) client place i wanted given.items) (at memory.old (W.log world.old)) x (at memory.new (W.log world.new)) }
     ensures keeps { Keeps (at memory.old (W.log world.old)) (at memory.new (W.log world.new)) }
 {
     let locals = program.program.functions.len();
     if i < locals {
         return call(
-            alloc, program, levels, memory, world, place, i, wanted, given,
+            alloc, program, levels, client, memory, world, place, i, wanted, given,
         );
     }
     by_table(
         alloc,
         program,
+        client,
         memory,
         world,
         place,
@@ -268,29 +306,46 @@ fn numbered<W: World>(
 fn by_table<W: World>(
     alloc: Global,
     program: &Resolved,
-    memory: &Memory<'_>,
+    client: bool,
+    memory: &mut Memory<'_>,
     world: &mut W,
     place: Place,
     i: usize,
     wanted: usize,
     given: Vec<Value>,
 ) -> Result<Vec<Value>, Halt>
-    ensures ok { IfOk result (λ gained. Went (by_table_part program.now place wanted given.items (slice_get function_names i)) (at memory.now (W.log world.old)) gained.items (at memory.now (W.log world.new))) }
-    ensures err { (x : Halt) → result ≡ Err x → Halts (by_table_part program.now place wanted given.items (slice_get function_names i)) (at memory.now (W.log world.old)) x (at memory.now (W.log world.new)) }
-    ensures keeps { Keeps (at memory.now (W.log world.old)) (at memory.now (W.log world.new)) }
+    ensures ok { IfOk result (λ gained. Went (by_table_part program.now client place wanted given.items (slice_get (function_names ++ program.now.extras) i)) (at memory.old (W.log world.old)) gained.items (at memory.new (W.log world.new))) }
+    ensures err { (x : Halt) → result ≡ Err x → Halts (by_table_part program.now client place wanted given.items (slice_get (function_names ++ program.now.extras) i)) (at memory.old (W.log world.old)) x (at memory.new (W.log world.new)) }
+    ensures keeps { Keeps (at memory.old (W.log world.old)) (at memory.new (W.log world.new)) }
 {
-    match table_name(i) {
+    match name_behind(&program.extras, i) {
         None => Err(fail(alloc, ErrKind::WrongPlace, place)),
-        Some(name) => by_known(
-            alloc,
-            program,
-            memory,
-            world,
-            place,
-            Known::of(name),
-            wanted,
-            given,
+        Some(name) => by_name(
+            alloc, program, client, memory, world, place, name, wanted, given,
         ),
+    }
+}
+
+/// A call of an extra, or else of a function of the library, by a name of the table.
+fn by_name<W: World>(
+    alloc: Global,
+    program: &Resolved,
+    client: bool,
+    memory: &mut Memory<'_>,
+    world: &mut W,
+    place: Place,
+    name: &[u8],
+    wanted: usize,
+    given: Vec<Value>,
+) -> Result<Vec<Value>, Halt>
+    ensures ok { IfOk result (λ gained. Went (by_table_part program.now client place wanted given.items (Some name.now)) (at memory.old (W.log world.old)) gained.items (at memory.new (W.log world.new))) }
+    ensures err { (x : Halt) → result ≡ Err x → Halts (by_table_part program.now client place wanted given.items (Some name.now)) (at memory.old (W.log world.old)) x (at memory.new (W.log world.new)) }
+    ensures keeps { Keeps (at memory.old (W.log world.old)) (at memory.new (W.log world.new)) }
+{
+    let known = Known::of(name);
+    match function_door(program, client, name, known, given.as_slice()) {
+        Some(number) => extra(alloc, memory, world, place, number, given, wanted),
+        None => by_known(alloc, program, memory, world, place, known, wanted, given),
     }
 }
 

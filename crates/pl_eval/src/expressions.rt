@@ -207,10 +207,10 @@ fn called_alone<W: World>(
 /// The number of a function behind `@`.
 #[tactic(auto, using(pl_meaning::proofs::Cut::cut))]
 fn handle(alloc: Global, program: &Resolved, name: &Name) -> Result<Value, Halt>
-    ensures ok { IfOk result (λ gained. (env : Workspace) (turns : ℕ) (l : Log) → Went (handle_part program.now name.now) (record { env = env; turns = turns; log = l }) gained (record { env = env; turns = turns; log = l })) }
-    ensures err { (x : Halt) → result ≡ Err x → (env : Workspace) (turns : ℕ) (l : Log) → Halts (handle_part program.now name.now) (record { env = env; turns = turns; log = l }) x (record { env = env; turns = turns; log = l }) }
+    ensures ok { IfOk result (λ gained. (env : Workspace) (turns calls : ℕ) (l : Log) → Went (handle_part program.now name.now) (record { env = env; turns = turns; calls = calls; log = l }) gained (record { env = env; turns = turns; calls = calls; log = l })) }
+    ensures err { (x : Halt) → result ≡ Err x → (env : Workspace) (turns calls : ℕ) (l : Log) → Halts (handle_part program.now name.now) (record { env = env; turns = turns; calls = calls; log = l }) x (record { env = env; turns = turns; calls = calls; log = l }) }
 {
-    match function_number(&program.program.functions, &name.text) {
+    match function_number(&program.program.functions, &program.extras, &name.text) {
         None => Err(fail(alloc, ErrKind::NoValue, name.place)),
         Some(place) => match u32::try_from(place) {
             Ok(number) => Ok(Value::Func(number)),

@@ -9,6 +9,7 @@ mod applying;
 mod assigning;
 mod branching;
 mod calling;
+mod doors;
 mod expressions;
 mod lists;
 mod local;

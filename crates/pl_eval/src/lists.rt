@@ -84,8 +84,8 @@ pub(crate) fn places<W: World>(
 
 /// The value of a call's argument, which is no colon.
 fn given(alloc: Global, place: Place, a: Argument) -> Result<Value, Halt>
-    ensures ok { IfOk result (λ gained. (env : Workspace) (turns : ℕ) (l : Log) → Went (given_of place a) (record { env = env; turns = turns; log = l }) gained (record { env = env; turns = turns; log = l })) }
-    ensures err { (x : Halt) → result ≡ Err x → (env : Workspace) (turns : ℕ) (l : Log) → Halts (given_of place a) (record { env = env; turns = turns; log = l }) x (record { env = env; turns = turns; log = l }) }
+    ensures ok { IfOk result (λ gained. (env : Workspace) (turns calls : ℕ) (l : Log) → Went (given_of place a) (record { env = env; turns = turns; calls = calls; log = l }) gained (record { env = env; turns = turns; calls = calls; log = l })) }
+    ensures err { (x : Halt) → result ≡ Err x → (env : Workspace) (turns calls : ℕ) (l : Log) → Halts (given_of place a) (record { env = env; turns = turns; calls = calls; log = l }) x (record { env = env; turns = turns; calls = calls; log = l }) }
 {
     match a {
         Argument::Colon => Err(fail(alloc, ErrKind::BadKind, place)),

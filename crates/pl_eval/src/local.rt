@@ -22,11 +22,12 @@ use std::alloc::Global;
 use std::mem;
 
 /// The frame of a function's body.
-fn frame_of(_program: &Resolved, i: usize, given: usize, wanted: usize) -> Frame
+fn frame_of(_program: &Resolved, client: bool, i: usize, given: usize, wanted: usize) -> Frame
     requires { i + 1 < 2 ^ 64 }
-    ensures { result ≡ frame_part _program.now i given wanted }
+    ensures { result ≡ frame_part _program.now client i given wanted }
 {
     Frame {
+        client,
         scope: i + 1,
         given,
         wanted,
@@ -41,6 +42,7 @@ pub(crate) fn call<W: World>(
     alloc: Global,
     program: &Resolved,
     levels: u32,
+    client: bool,
     memory: &mut Memory<'_>,
     world: &mut W,
     place: Place,
@@ -48,15 +50,15 @@ pub(crate) fn call<W: World>(
     wanted: usize,
     given: Vec<Value>,
 ) -> Result<Vec<Value>, Halt>
-    ensures ok { IfOk result (λ gained. Went (call_in program.now (below program.now levels) place i wanted given.items) (at memory.old (W.log world.old)) gained.items (at memory.new (W.log world.new))) }
-    ensures err { (x : Halt) → result ≡ Err x → Halts (call_in program.now (below program.now levels) place i wanted given.items) (at memory.old (W.log world.old)) x (at memory.new (W.log world.new)) }
+    ensures ok { IfOk result (λ gained. Went (call_in program.now (below program.now levels) client place i wanted given.items) (at memory.old (W.log world.old)) gained.items (at memory.new (W.log world.new))) }
+    ensures err { (x : Halt) → result ≡ Err x → Halts (call_in program.now (below program.now levels) client place i wanted given.items) (at memory.old (W.log world.old)) x (at memory.new (W.log world.new)) }
     ensures keeps { Keeps (at memory.old (W.log world.old)) (at memory.new (W.log world.new)) }
 {
     let functions = program.program.functions.as_slice();
     if i >= functions.len() {
         return Err(fail(alloc, ErrKind::NoValue, place));
     }
-    let frame = frame_of(program, i, given.len(), wanted);
+    let frame = frame_of(program, client, i, given.len(), wanted);
     let g = &functions[i];
     checked(
         alloc, program, levels, frame, memory, world, place, g, given,

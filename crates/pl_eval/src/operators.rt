@@ -5,15 +5,14 @@ ghost use Rattle.pl_meaning.specs.declared.halt.Halt.{Halt};
 ghost use Rattle.pl_meaning.specs.Promises.{Went, Halts, Keeps, at};
 ghost use Rattle.pl_meaning.specs.Parts.{below, level_at, value_in, operated, unary as unary_part, binary as binary_part, both as both_part, second as second_part, either as either_part, other as other_part, switch as switch_part, bracket as bracket_part, end_word as end_part};
 
+use crate::doors::{operate_on_one, operate_on_two};
 use crate::expressions::value;
 use crate::lists::rows;
 use crate::naming::count_value;
 use pl_access::{decided, fail, read_end, settled};
 use pl_base::{ErrKind, Place};
 use pl_meaning::{Frame, Halt, Memory, World};
-use pl_operators::{
-    binary as binary_of, logical, rows as rows_of, switch as switch_of, unary as unary_of,
-};
+use pl_operators::{logical, rows as rows_of, switch as switch_of};
 use pl_resolve::Resolved;
 use pl_syntax::{Bin, Expr, Un};
 use pl_values::Value;
@@ -34,12 +33,12 @@ pub(crate) fn unary<W: World>(
     op: Un,
     a: &Expr,
 ) -> Result<Value, Halt>
-    ensures ok { IfOk result (λ gained. Went (unary_part program.now.mode (value_in program.now (below program.now levels)) frame place op a.now) (at memory.old (W.log world.old)) gained (at memory.new (W.log world.new))) }
-    ensures err { (x : Halt) → result ≡ Err x → Halts (unary_part program.now.mode (value_in program.now (below program.now levels)) frame place op a.now) (at memory.old (W.log world.old)) x (at memory.new (W.log world.new)) }
+    ensures ok { IfOk result (λ gained. Went (unary_part program.now (value_in program.now (below program.now levels)) frame place op a.now) (at memory.old (W.log world.old)) gained (at memory.new (W.log world.new))) }
+    ensures err { (x : Halt) → result ≡ Err x → Halts (unary_part program.now (value_in program.now (below program.now levels)) frame place op a.now) (at memory.old (W.log world.old)) x (at memory.new (W.log world.new)) }
     ensures keeps { Keeps (at memory.old (W.log world.old)) (at memory.new (W.log world.new)) }
 {
     let x = value(alloc, program, levels, frame, memory, world, a)?;
-    settled!(alloc, place, unary_of(alloc, program.mode, op, &x))
+    operate_on_one(alloc, program, frame.client, memory, world, place, op, x)
 }
 
 /// An operator of two operands.
@@ -56,8 +55,8 @@ pub(crate) fn operation<W: World>(
     a: &Expr,
     b: &Expr,
 ) -> Result<Value, Halt>
-    ensures ok { IfOk result (λ gained. Went (operated program.now.mode (value_in program.now (below program.now levels)) frame place op a.now b.now) (at memory.old (W.log world.old)) gained (at memory.new (W.log world.new))) }
-    ensures err { (x : Halt) → result ≡ Err x → Halts (operated program.now.mode (value_in program.now (below program.now levels)) frame place op a.now b.now) (at memory.old (W.log world.old)) x (at memory.new (W.log world.new)) }
+    ensures ok { IfOk result (λ gained. Went (operated program.now (value_in program.now (below program.now levels)) frame place op a.now b.now) (at memory.old (W.log world.old)) gained (at memory.new (W.log world.new))) }
+    ensures err { (x : Halt) → result ≡ Err x → Halts (operated program.now (value_in program.now (below program.now levels)) frame place op a.now b.now) (at memory.old (W.log world.old)) x (at memory.new (W.log world.new)) }
     ensures keeps { Keeps (at memory.old (W.log world.old)) (at memory.new (W.log world.new)) }
 {
     match op {
@@ -84,13 +83,13 @@ fn binary<W: World>(
     a: &Expr,
     b: &Expr,
 ) -> Result<Value, Halt>
-    ensures ok { IfOk result (λ gained. Went (binary_part program.now.mode (value_in program.now (below program.now levels)) frame place op a.now b.now) (at memory.old (W.log world.old)) gained (at memory.new (W.log world.new))) }
-    ensures err { (x : Halt) → result ≡ Err x → Halts (binary_part program.now.mode (value_in program.now (below program.now levels)) frame place op a.now b.now) (at memory.old (W.log world.old)) x (at memory.new (W.log world.new)) }
+    ensures ok { IfOk result (λ gained. Went (binary_part program.now (value_in program.now (below program.now levels)) frame place op a.now b.now) (at memory.old (W.log world.old)) gained (at memory.new (W.log world.new))) }
+    ensures err { (x : Halt) → result ≡ Err x → Halts (binary_part program.now (value_in program.now (below program.now levels)) frame place op a.now b.now) (at memory.old (W.log world.old)) x (at memory.new (W.log world.new)) }
     ensures keeps { Keeps (at memory.old (W.log world.old)) (at memory.new (W.log world.new)) }
 {
     let x = value(alloc, program, levels, frame, memory, world, a)?;
     let y = value(alloc, program, levels, frame, memory, world, b)?;
-    settled!(alloc, place, binary_of(alloc, program.mode, op, &x, &y))
+    operate_on_two(alloc, program, frame.client, memory, world, place, op, x, y)
 }
 
 /// An operand of `&&` or `||`.

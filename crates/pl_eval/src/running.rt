@@ -51,7 +51,11 @@ pub fn run_body<'b, W: World>(
     requires { (W.log world.old).given ≡ [] }
     ensures { Carries (run_of program.now frame body.now start.entry turns depth (W.log world.old).rules (W.log world.new).given) result (W.log world.old) (W.log world.new) }
 {
-    let mut memory = Memory { env: start, turns };
+    let mut memory = Memory {
+        env: start,
+        turns,
+        calls: 0,
+    };
     match block(alloc, program, depth, frame, &mut memory, world, body) {
         Ok(_) => Ok(Ended::Done(memory.env)),
         Err(Halt::Raise(error)) => Ok(Ended::Raised(error)),
@@ -74,6 +78,7 @@ pub fn run<'b, W: World>(
     ensures { Carries (Run program.now start.entry turns depth (W.log world.old).rules (W.log world.new).given) result (W.log world.old) (W.log world.new) }
 {
     let outermost = Frame {
+        client: true,
         scope: 0,
         given: 0,
         wanted: 0,

@@ -12,7 +12,9 @@ use crate::expressions::value;
 use crate::running::descend;
 use pl_access::{array_at, ask, bounds_at, fail, take_turn, tell, write};
 use pl_base::{ErrKind, Place};
-use pl_meaning::{Answer, Event, Exit, Frame, Halt, Loop, Memory, Output, World, slot_of};
+use pl_meaning::{
+    Answer, Event, Exit, Frame, Halt, Loop, Memory, Output, Question, World, slot_of,
+};
 use pl_resolve::Resolved;
 use pl_syntax::{Expr, ExprKind, Name, Stmt, StmtKind, Target};
 use pl_values::Value;
@@ -182,16 +184,16 @@ fn share<W: World>(
     let bounds = bounds_at(alloc, place, first, last)?;
     lay_all(alloc, program, frame, memory, world, place, body)?;
     take_turn(alloc, memory, world, place)?;
-    let question = Loop {
+    let question = Question::Loop(Loop {
         scope: frame.scope,
         place,
         index,
         body,
         first: bounds.first,
         count: bounds.count,
-    };
+    });
     let answer = ask(memory, world, question)?;
-    take_answer(alloc, memory, world, answer)
+    take_answer(alloc, memory, world, place, answer)
 }
 
 /// Each variable that the body writes has an array, or no value.
@@ -253,14 +255,16 @@ fn take_answer<W: World>(
     alloc: Global,
     memory: &mut Memory<'_>,
     world: &mut W,
+    place: Place,
     answer: Answer,
 ) -> Result<Exit, Halt>
-    ensures ok { IfOk result (λ gained. Went (answered answer) (at memory.old (W.log world.old)) gained (at memory.new (W.log world.new))) }
-    ensures err { (x : Halt) → result ≡ Err x → Halts (answered answer) (at memory.old (W.log world.old)) x (at memory.new (W.log world.new)) }
+    ensures ok { IfOk result (λ gained. Went (answered place answer) (at memory.old (W.log world.old)) gained (at memory.new (W.log world.new))) }
+    ensures err { (x : Halt) → result ≡ Err x → Halts (answered place answer) (at memory.old (W.log world.old)) x (at memory.new (W.log world.new)) }
     ensures keeps { Keeps (at memory.old (W.log world.old)) (at memory.new (W.log world.new)) }
 {
     match answer {
         Answer::Raised(error) => Err(Halt::Raise(error)),
+        Answer::Extra(_, _, _) => Err(fail(alloc, ErrKind::WrongPlace, place)),
         Answer::Looped(looped) => {
             tell(memory, world, Event::Print(looped.text))?;
             take_outputs(alloc, memory, world, looped.outputs.into_vec())?;

@@ -5,6 +5,7 @@ pub mod Known
 pub mod Bounds
 pub mod Names
 pub mod Library
+pub mod Extras
 pub mod Parts
 pub mod Promises
 pub mod Runs

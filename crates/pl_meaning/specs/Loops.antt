@@ -7,7 +7,7 @@ use Rattle.std.specs.Fmt.{signed_decimal}
 use Rattle.pl_base.specs.declared.choice.Choice.{Choice}
 use Rattle.pl_base.specs.declared.choice.Choice.TheVariants as choice
 use Rattle.pl_base.specs.declared.errors.ErrKind.{ErrKind}
-use Rattle.pl_base.specs.declared.errors.ErrKind.TheVariants.{MixedClass}
+use Rattle.pl_base.specs.declared.errors.ErrKind.TheVariants.{MixedClass, WrongPlace}
 use Rattle.pl_base.specs.declared.errors.ScriptError.{ScriptError}
 use Rattle.pl_array.specs.declared.class.Class.{Class}
 use Rattle.pl_array.specs.Arrays.{class_number}
@@ -24,10 +24,11 @@ use Rattle.pl_errors.specs.Errors.{message_of}
 use Rattle.pl_resolve.specs.declared.resolved.Resolved.{Resolved}
 use Rattle.pl_meaning.specs.declared.event.Answer.{Answer}
 use Rattle.pl_meaning.specs.declared.event.Answer.TheVariants as answer
+use Rattle.pl_meaning.specs.declared.event.ExtraAnswer.{ExtraAnswer}
 use Rattle.pl_meaning.specs.declared.event.Output.{Output}
 use Rattle.pl_meaning.specs.declared.event.Clash.{Clash}
 use Rattle.pl_meaning.specs.declared.frame.Frame.{Frame}
-use Rattle.pl_meaning.specs.Logs.{Workspace, Trace, Byte, Question, Rules}
+use Rattle.pl_meaning.specs.Logs.{Workspace, Trace, Byte, LoopQuestion, Asked, OfLoop, OfExtra, Reply, Rules}
 use Rattle.pl_meaning.specs.Names.{names_in, slot_of}
 use Rattle.pl_meaning.specs.Running.{Outcome, Ending, Done, Raised, Asks}
 use Rattle.pl_meaning.specs.Parts.{with_slot, written_in}
@@ -35,20 +36,20 @@ use Rattle.pl_meaning.specs.Runs.{run_of}
 
 -- ## One iteration
 
--- where the statements of a body stand
-abbrev pub body_frame : Question → Frame
-body_frame q = record { scope = q.scope; given = 0; wanted = 0; ends = None }
+-- where the statements of a body stand: away from the client
+abbrev pub body_frame : LoopQuestion → Frame
+body_frame q = record { client = false; scope = q.scope; given = 0; wanted = 0; ends = None }
 
 -- an iteration asks no question that is answered
 abbrev pub no_rules : Rules
-no_rules q env c = None
+no_rules = record { kept = []; reply = λ kept q env choices. None }
 
 -- the workspace in which it begins: that before the loop, with its own value of the index
-abbrev pub start_of : Resolved → Question → Workspace → ℤ → Workspace
+abbrev pub start_of : Resolved → LoopQuestion → Workspace → ℤ → Workspace
 start_of program q env i = with_slot env (slot_of program (body_frame q) q.index.text) (number_of i)
 
 -- the body by itself, with turns and levels of its own
-unfoldable pub Iter : Resolved → ℕ → ℕ → Question → Workspace → ℤ → Outcome
+unfoldable pub Iter : Resolved → ℕ → ℕ → LoopQuestion → Workspace → ℤ → Outcome
 Iter program turns depth q env i = run_of program (body_frame q) q.body (start_of program q env i) turns depth no_rules []
 
 -- the workspace at its end, where it doesn't raise
@@ -122,7 +123,7 @@ abbrev pub slots_from : Resolved → Frame → List ℕ → List Name → List �
 slots_from program f done [] = done
 slots_from program f done (n ∷ more) = slots_from program f (with_one done (slot_of program f n.text)) more
 
-abbrev pub written_slots : Resolved → Question → List ℕ
+abbrev pub written_slots : Resolved → LoopQuestion → List ℕ
 written_slots program q = slots_from program (body_frame q) [] (written_in q.body)
 
 -- a variable that came to this, before others: all of them, or the first of which the writes don't go together
@@ -146,7 +147,7 @@ abbrev pub covers : List (List ℕ) → ℕ → Bool
 covers runs count = list_all is_run runs && counted_in runs == count
 
 -- a value of the loop's index
-abbrev pub is_index : Question → ℤ → Bool
+abbrev pub is_index : LoopQuestion → ℤ → Bool
 is_index q i = not (int_lt i q.first) && int_lt i (q.first +ℤ pos q.count)
 
 -- an error of an iteration, headed by its value of the index
@@ -154,10 +155,10 @@ abbrev pub headed : ℤ → ScriptError → ScriptError
 headed i e = record e { text = codes "iteration " ++ signed_decimal i ++ codes ": " ++ e.text }
 
 -- the error of writes that don't go together
-abbrev pub name_at : Resolved → Question → ℕ → List ℕ
+abbrev pub name_at : Resolved → LoopQuestion → ℕ → List ℕ
 name_at program q slot = unwrap_or (slice_get (names_in program q.scope) slot) []
 
-abbrev pub clash_error : Resolved → Question → Clash → ScriptError
+abbrev pub clash_error : Resolved → LoopQuestion → Clash → ScriptError
 clash_error program q c = record { kind = c.kind; place = q.place; text = codes "variable " ++ name_at program q c.slot ++ codes ": " ++ message_of c.kind }
 
 -- the answer by an iteration that raised, if it did
@@ -167,7 +168,7 @@ by_fail i ending = None
 
 -- ## A loop
 
-module _ (program : Resolved) (turns depth : ℕ) (q : Question) (env : Workspace) where
+module _ (program : Resolved) (turns depth : ℕ) (q : LoopQuestion) (env : Workspace) where
   -- how an iteration ends
   abbrev pub ends_of : ℤ → Option Workspace
   ends_of i = end_of (Iter program turns depth q env i).ending
@@ -215,7 +216,7 @@ module _ (program : Resolved) (turns depth : ℕ) (q : Question) (env : Workspac
 -- ## The plain run: the body as one loop over one whole workspace, each pass from where the one before it left it, in an order
 -- of the index's values. None where a pass raises
 
-module _ (program : Resolved) (turns depth : ℕ) (q : Question) where
+module _ (program : Resolved) (turns depth : ℕ) (q : LoopQuestion) where
   abbrev pub plain_on : (Workspace → Option Workspace) → Option Workspace → Option Workspace
   plain_on more None = None
   plain_on more (Some env) = more env
@@ -224,6 +225,24 @@ module _ (program : Resolved) (turns depth : ℕ) (q : Question) where
   plain [] env = Some env
   plain (i ∷ is) env = plain_on (plain is) (end_of (Iter program turns depth q env i).ending)
 
--- the rules of a session: each loop is answered by its iterations
+-- ## The rules of a session
+
+abbrev pub reply_of : List Value → List Choice → Option Answer → Option Reply
+reply_of kept more None = None
+reply_of kept more (Some a) = Some (record { answer = a; kept = kept; left = more })
+
+-- a loop is answered by its iterations, under the next choice
+abbrev pub loop_reply : Resolved → ℕ → ℕ → List Value → LoopQuestion → Workspace → List Choice → Option Reply
+loop_reply program turns depth kept q env [] = None
+loop_reply program turns depth kept q env (c ∷ more) = reply_of kept more (loop_answer program turns depth q env c)
+
+-- an extra is refused: nothing that is built so far brings one, and it takes no choice
+abbrev pub no_extra : Answer
+no_extra = answer.Extra (ExtraAnswer.Raised WrongPlace (message_of WrongPlace) None) [] 0
+
+abbrev pub session_reply : Resolved → ℕ → ℕ → List Value → Asked → Workspace → List Choice → Option Reply
+session_reply program turns depth kept (OfLoop q) env choices = loop_reply program turns depth kept q env choices
+session_reply program turns depth kept (OfExtra number operands outputs) env choices = Some (record { answer = no_extra; kept = kept; left = choices })
+
 unfoldable pub loop_rules : Resolved → ℕ → ℕ → Rules
-loop_rules program turns depth q env c = loop_answer program turns depth q env c
+loop_rules program turns depth = record { kept = []; reply = session_reply program turns depth }

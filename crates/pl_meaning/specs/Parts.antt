@@ -2,15 +2,17 @@
 -- number of levels that are left. Each expression node but a number, a text and a variable, each compound
 -- statement and each call of a local function goes down by one level, and where none is left the error is
 -- TooDeep at its place.
-use Rattle.std.specs.Prelude.{ℕ, zero, suc, ◌+◌, ◌-◌, nat_lt, List, [], ◌∷◌, ◌++◌, length, replicate, position, slice_get, slice_set, take, drop, Bool, true, false, codes, pos, ◌||◌, Option, Some, None, if◌then◌else◌}
+use Rattle.std.specs.Prelude.{ℕ, zero, suc, ◌+◌, ◌-◌, nat_lt, List, [], ◌∷◌, ◌++◌, length, replicate, position, slice_get, slice_set, take, drop, Bool, true, false, codes, pos, ◌||◌, Option, Some, None, Result, if◌then◌else◌}
 use Rattle.pl_base.specs.declared.errors.Place.{Place}
 use Rattle.pl_base.specs.declared.mode.Mode.{Mode}
 use Rattle.pl_base.specs.Numbers.{clamp}
+use Rattle.pl_base.specs.declared.errors.ErrKind.{ErrKind}
 use Rattle.pl_base.specs.declared.errors.ErrKind.TheVariants.{TooDeep, NoValue, ArgCount, BadKind, BadIndex, OutputUnset, WrongPlace, Spent}
 use Rattle.pl_syntax.specs.declared.expr.Name.{Name}
 use Rattle.pl_syntax.specs.declared.expr.Un.{Un}
 use Rattle.pl_syntax.specs.declared.expr.Bin.{Bin}
 use Rattle.pl_syntax.specs.declared.expr.Bin.TheVariants.{AndAlso, OrElse}
+use Rattle.pl_syntax.specs.Signs.{unary_sign, binary_sign}
 use Rattle.pl_syntax.specs.declared.expr.Expr.{Expr, out-Expr}
 use Rattle.pl_syntax.specs.declared.expr.ExprKind.{ExprKind, out-ExprKind}
 use Rattle.pl_syntax.specs.declared.expr.ExprKind.TheOpen.{ExprKind-F}
@@ -41,7 +43,7 @@ use Rattle.pl_meaning.specs.declared.frame.Exit.{Exit}
 use Rattle.pl_meaning.specs.declared.frame.Exit.TheVariants.{Onward, Broke, Continued, Returned}
 use Rattle.pl_meaning.specs.declared.event.Answer.{Answer}
 use Rattle.pl_meaning.specs.declared.event.Output.{Output}
-use Rattle.pl_meaning.specs.Logs.{Workspace}
+use Rattle.pl_meaning.specs.Logs.{Workspace, OfLoop}
 use Rattle.pl_meaning.specs.Running.{Running, pure, raise, ◌>>=◌, attempt, inside, tell, ask}
 use Rattle.pl_meaning.specs.Bounds.{bounds_of}
 use Rattle.pl_meaning.specs.Accesses.{fail, settle, read, check, read_part, read_end, write, write_part, erase_part, take_turn}
@@ -50,12 +52,13 @@ use Rattle.pl_resolve.specs.Functions.{function_names, local_names, number_of as
 use Rattle.pl_meaning.specs.Names.{names_in, slot_of, function_of, callee_of, arguments_of}
 use Rattle.pl_meaning.specs.Known.{known_of, is_feval}
 use Rattle.pl_meaning.specs.Library.{library}
+use Rattle.pl_meaning.specs.Extras.{operator_door, function_door, read_operands, read_door, by_door, extra}
 
 -- what parts do one level further down
 pub record Level : Type 0 where
   pub value : Frame → Expr → Running Value
   pub outputs : Frame → ℕ → Expr → Running (List Value)
-  pub call : Place → ℕ → ℕ → List Value → Running (List Value)
+  pub call : Bool → Place → ℕ → ℕ → List Value → Running (List Value)
   pub block : Frame → List Stmt → Running Exit
   pub ends : Frame → Expr → Running (Value × Value)
 
@@ -122,12 +125,25 @@ unbuilt place = fail WrongPlace place
 abbrev pub Values : Type 0
 Values = Frame → Expr → Running Value
 
-unfoldable pub unary : Mode → Values → Frame → Place → Un → Expr → Running Value
-unary mode value f place op a = value f a >>= (λ x. settle place (unary_of mode op x))
+-- the one output of a call that is used as a value
+abbrev pub first_of : Place → List Value → Running Value
+first_of place [] = fail ArgCount place
+first_of place (v ∷ more) = pure v
+
+-- an extra that is used as a value
+abbrev pub one_extra : Place → List Value → ℕ → Running Value
+one_extra place vs number = extra place number vs 1 >>= (λ outs. first_of place outs)
+
+-- an operator: what it makes of its operands, or an extra
+abbrev pub operator : Resolved → Bool → Place → List ℕ → List Value → Result Value ErrKind → Running Value
+operator program client place sign vs r = by_door (operator_door program client sign vs) (one_extra place vs) (settle place r)
+
+unfoldable pub unary : Resolved → Values → Frame → Place → Un → Expr → Running Value
+unary program value f place op a = value f a >>= (λ x. operator program f.client place (unary_sign op) (x ∷ []) (unary_of program.mode op x))
 
 -- both operands, the left one first
-unfoldable pub binary : Mode → Values → Frame → Place → Bin → Expr → Expr → Running Value
-binary mode value f place op a b = value f a >>= (λ x. value f b >>= (λ y. settle place (binary_of mode op x y)))
+unfoldable pub binary : Resolved → Values → Frame → Place → Bin → Expr → Expr → Running Value
+binary program value f place op a b = value f a >>= (λ x. value f b >>= (λ y. operator program f.client place (binary_sign op) (x ∷ y ∷ []) (binary_of program.mode op x y)))
 
 -- an operand of `&&` or `||`
 unfoldable pub switch : Values → Frame → Place → Expr → Running Bool
@@ -148,10 +164,10 @@ other value f place b false = switch value f place b >>= (λ right. pure (logica
 unfoldable pub either : Values → Frame → Place → Expr → Expr → Running Value
 either value f place a b = switch value f place a >>= (λ left. other value f place b left)
 
-abbrev pub operated : Mode → Values → Frame → Place → Bin → Expr → Expr → Running Value
-operated mode value f place AndAlso a b = both value f place a b
-operated mode value f place OrElse a b = either value f place a b
-operated mode value f place op a b = binary mode value f place op a b
+abbrev pub operated : Resolved → Values → Frame → Place → Bin → Expr → Expr → Running Value
+operated program value f place AndAlso a b = both value f place a b
+operated program value f place OrElse a b = either value f place a b
+operated program value f place op a b = binary program value f place op a b
 
 -- a range's step, where it has one
 abbrev pub step_of : Values → Frame → Option Expr → Running (Option Value)
@@ -164,18 +180,17 @@ range value f place a s b = value f a >>= (λ x. step_of value f s >>= (λ w. va
 unfoldable pub bracket : Values → Frame → Place → List (List Expr) → Running Value
 bracket value f place ess = rows value f ess >>= (λ vss. settle place (rows_of vss))
 
+-- what an index selects of a variable, or an extra
+unfoldable pub picked : Resolved → Bool → ℕ → Place → List Argument → Running Value
+picked program client slot place list = λ k h s. by_door (read_door program client (value_at s.env slot) list) (one_extra place (read_operands (value_at s.env slot) list)) (read_part slot place list) k h s
+
 -- a variable that is indexed: that it has a value, then the index list, then what it selects
-unfoldable pub indexed : Values → Frame → Name → ℕ → List Expr → Running Value
-indexed value f n slot es = check slot n.place >>= (λ u. places value f slot es >>= (λ list. read_part slot n.place list))
+unfoldable pub indexed : Resolved → Values → Frame → Name → ℕ → List Expr → Running Value
+indexed program value f n slot es = check slot n.place >>= (λ u. places value f slot es >>= (λ list. picked program f.client slot n.place list))
 
 abbrev pub end_word : Option Ends → Place → Running Value
 end_word None place = fail BadIndex place
 end_word (Some ends) place = read_end ends place >>= (λ extent. pure (number_of (clamp (pos extent))))
-
--- the one output of a call that is used as a value
-abbrev pub first_of : Place → List Value → Running Value
-first_of place [] = fail ArgCount place
-first_of place (v ∷ more) = pure v
 
 -- a value in a slot, where there is one
 abbrev pub with_slot : Workspace → Option ℕ → Value → Workspace
@@ -251,45 +266,50 @@ abbrev pub taken : List Output → Running (Unit {0})
 taken [] = pure tt
 taken (o ∷ more) = write o.slot o.value >>= (λ u. taken more)
 
-abbrev pub answered : Answer → Running Exit
-answered (Answer.Raised e) = raise e
-answered (Answer.Looped l) = tell (Print l.text) >>= (λ u. taken l.outputs >>= (λ w. pure Onward))
+abbrev pub answered : Place → Answer → Running Exit
+answered place (Answer.Raised e) = raise e
+answered place (Answer.Extra reply text calls) = fail WrongPlace place
+answered place (Answer.Looped l) = tell (Print l.text) >>= (λ u. taken l.outputs >>= (λ w. pure Onward))
 
 module _ (program : Resolved) where
-  -- a function of the library by its place in the table of names
+  -- a function of the library
   abbrev pub by_known : Place → ℕ → List Value → Option Known → Running (List Value)
   by_known place nout vs None = unbuilt place
   by_known place nout vs (Some f) = library program.mode place f nout vs
 
-  abbrev pub by_table : Place → ℕ → List Value → Option (List ℕ) → Running (List Value)
-  by_table place nout vs None = unbuilt place
-  by_table place nout vs (Some name) = by_known place nout vs (known_of name)
+  -- a function by its name in the table of names: an extra, or a function of the library
+  abbrev pub by_table : Bool → Place → ℕ → List Value → Option (List ℕ) → Running (List Value)
+  by_table client place nout vs None = unbuilt place
+  by_table client place nout vs (Some name) = by_door (function_door program client name vs) (λ number. extra place number vs nout) (by_known place nout vs (known_of name))
 
   abbrev pub locals : ℕ
   locals = length program.program.functions
 
-  -- a call by the number of a function: local ones first, then those of the table
-  unfoldable pub numbered : Level → Place → ℕ → ℕ → List Value → Running (List Value)
-  numbered d place i nout vs = if nat_lt i locals then d.call place i nout vs else by_table place nout vs (slice_get function_names (i - locals))
+  -- a call by the number of a function: local ones first, then those of the table of names, and then the extras
+  unfoldable pub numbered : Level → Bool → Place → ℕ → ℕ → List Value → Running (List Value)
+  numbered d client place i nout vs = if nat_lt i locals then d.call client place i nout vs else by_table client place nout vs (slice_get (function_names ++ program.extras) (i - locals))
 
   -- `feval`: the first argument is the function, and the others are its arguments
-  unfoldable pub fed : Level → Place → ℕ → List Value → Running (List Value)
-  fed d place nout vs = handed place vs >>= (λ i. numbered d place i nout (drop 1 vs))
+  unfoldable pub fed : Level → Bool → Place → ℕ → List Value → Running (List Value)
+  fed d client place nout vs = handed place vs >>= (λ i. numbered d client place i nout (drop 1 vs))
 
-  abbrev pub by_library : Level → Place → ℕ → List Value → Known → Running (List Value)
-  by_library d place nout vs f = if is_feval f then fed d place nout vs else library program.mode place f nout vs
+  abbrev pub by_library : Level → Bool → Place → ℕ → List Value → Known → Running (List Value)
+  by_library d client place nout vs f = if is_feval f then fed d client place nout vs else library program.mode place f nout vs
 
-  -- a call by a name: of a local function, or else of a function of the library
-  abbrev pub dispatched : Level → Place → ℕ → List Value → Option ℕ → Option Known → Running (List Value)
-  dispatched d place nout vs (Some i) f = d.call place i nout vs
-  dispatched d place nout vs None (Some f) = by_library d place nout vs f
-  dispatched d place nout vs None None = unbuilt place
+  abbrev pub known_call : Level → Bool → Place → ℕ → List Value → Option Known → Running (List Value)
+  known_call d client place nout vs None = unbuilt place
+  known_call d client place nout vs (Some f) = by_library d client place nout vs f
 
-  unfoldable pub call_name : Level → Name → ℕ → List Value → Running (List Value)
-  call_name d n nout vs = dispatched d n.place nout vs (function_of program n.text) (known_of n.text)
+  -- a call by a name: of a local function, of an extra, or else of a function of the library
+  abbrev pub dispatched : Level → Bool → Name → ℕ → List Value → Option ℕ → Option Known → Running (List Value)
+  dispatched d client n nout vs (Some i) f = d.call client n.place i nout vs
+  dispatched d client n nout vs None f = by_door (function_door program client n.text vs) (λ number. extra n.place number vs nout) (known_call d client n.place nout vs f)
+
+  unfoldable pub call_name : Level → Bool → Name → ℕ → List Value → Running (List Value)
+  call_name d client n nout vs = dispatched d client n nout vs (function_of program n.text) (known_of n.text)
 
   abbrev pub applied : Level → Frame → Name → ℕ → List Expr → Running (List Value)
-  applied d f n nout es = values d.value f n.place es >>= (λ vs. call_name d n nout vs)
+  applied d f n nout es = values d.value f n.place es >>= (λ vs. call_name d f.client n nout vs)
 
   -- a call's node, with so many outputs
   unfoldable pub called : Option Level → Frame → Place → Name → ℕ → List Expr → Running (List Value)
@@ -301,21 +321,21 @@ module _ (program : Resolved) where
   handle_of place (Some i) = pure (Value.Func i)
 
   abbrev pub handle : Name → Running Value
-  handle n = handle_of n.place (number_of_name (local_names program.program.functions) n.text)
+  handle n = handle_of n.place (number_of_name (record { locals = local_names program.program.functions; extras = program.extras }) n.text)
 
   abbrev pub variable_or_call : Option Level → Frame → Place → Name → Option ℕ → Running Value
   variable_or_call l f place n (Some slot) = read slot n.place
   variable_or_call l f place n None = called l f place n 1 [] >>= (λ vs. first_of n.place vs)
 
   abbrev pub index_or_call : Level → Frame → Name → List Expr → Option ℕ → Running Value
-  index_or_call d f n es (Some slot) = indexed d.value f n slot es
+  index_or_call d f n es (Some slot) = indexed program d.value f n slot es
   index_or_call d f n es None = applied d f n 1 es >>= (λ vs. first_of n.place vs)
 
   -- an expression that goes down by a level, below it
   abbrev pub compound_of : Level → Frame → Place → ExprKind-F ExprKind Expr → Running Value
   compound_of d f place (ExprKind-F.Apply n es) = index_or_call d f n es (slot_of program f n.text)
-  compound_of d f place (ExprKind-F.Unary op a) = unary program.mode d.value f place op a
-  compound_of d f place (ExprKind-F.Binary op a b) = operated program.mode d.value f place op a b
+  compound_of d f place (ExprKind-F.Unary op a) = unary program d.value f place op a
+  compound_of d f place (ExprKind-F.Binary op a b) = operated program d.value f place op a b
   compound_of d f place (ExprKind-F.Range a s b) = range d.value f place a s b
   compound_of d f place (ExprKind-F.Rows ess) = bracket d.value f place ess
   compound_of d f place (ExprKind-F.Func n) = handle n
@@ -396,8 +416,8 @@ module _ (program : Resolved) where
   unfoldable pub results : Frame → Place → Function → Running (List Value)
   results f place g = results_of f place g.outs f.wanted
 
-  abbrev pub frame_of : ℕ → ℕ → ℕ → Frame
-  frame_of i given wanted = record { scope = i + 1; given = given; wanted = wanted; ends = None }
+  abbrev pub frame_of : Bool → ℕ → ℕ → ℕ → Frame
+  frame_of client i given wanted = record { client = client; scope = i + 1; given = given; wanted = wanted; ends = None }
 
   -- its statements, and the outputs that are asked for
   abbrev pub ran : Level → Frame → Place → Function → Running (List Value)
@@ -407,14 +427,14 @@ module _ (program : Resolved) where
   body_of d f place g vs = inside (entry_of f g vs) (ran d f place g)
 
   -- a function: the counts, a turn, a level, and its body in a workspace of its own
-  abbrev pub entered : Option Level → Place → ℕ → ℕ → List Value → Option Function → Running (List Value)
-  entered l place i nout vs None = fail NoValue place
-  entered l place i nout vs (Some g) =
+  abbrev pub entered : Option Level → Bool → Place → ℕ → ℕ → List Value → Option Function → Running (List Value)
+  entered l client place i nout vs None = fail NoValue place
+  entered l client place i nout vs (Some g) =
       if nat_lt (length g.params) (length vs) || nat_lt (length g.outs) nout then fail ArgCount place else
-      (take_turn place >>= (λ u. enter l place (λ d. body_of d (frame_of i (length vs) nout) place g vs)))
+      (take_turn place >>= (λ u. enter l place (λ d. body_of d (frame_of client i (length vs) nout) place g vs)))
 
-  unfoldable pub call_in : Option Level → Place → ℕ → ℕ → List Value → Running (List Value)
-  call_in l place i nout vs = entered l place i nout vs (slice_get program.program.functions i)
+  unfoldable pub call_in : Option Level → Bool → Place → ℕ → ℕ → List Value → Running (List Value)
+  call_in l client place i nout vs = entered l client place i nout vs (slice_get program.program.functions i)
 
   -- ## Statements
 
@@ -560,7 +580,7 @@ module _ (program : Resolved) where
   unfoldable pub shared : Frame → Place → Name → List Stmt → Value → Value → Running Exit
   shared f place n body x y =
       settle place (bounds_of x y) >>= (λ b. all_laid f place (written_in body) >>= (λ u. take_turn place >>= (λ w.
-      ask (record { scope = f.scope; place = place; index = n; body = body; first = b.first; count = b.count }) >>= answered)))
+      ask (OfLoop (record { scope = f.scope; place = place; index = n; body = body; first = b.first; count = b.count })) >>= answered place)))
 
   -- a loop without a bound on its workers; one with a bound isn't built yet
   abbrev pub divided : Level → Frame → Place → Name → Expr → Option Expr → List Stmt → Running Exit

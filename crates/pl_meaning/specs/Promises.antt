@@ -14,10 +14,11 @@ use Rattle.pl_meaning.specs.Running.{Outcome, Ending, Done, Rest, Running}
 pub record At : Type 0 where
   pub env : Workspace
   pub turns : ℕ
+  pub calls : ℕ
   pub log : Log
 
 abbrev pub at : Memory → Log → At
-at m l = record { env = m.env; turns = m.turns; log = l }
+at m l = record { env = m.env; turns = m.turns; calls = m.calls; log = l }
 
 -- what is shown begins with what was told, or neither is told
 abbrev pub Begins : Option (List Trace) → Option (List Trace) → Type 0
@@ -43,7 +44,7 @@ seen l o = record { shown = grown l.shown o.shown; ending = o.ending; stops = l.
 
 -- what a run comes to from here, where all these choices are taken in the whole run
 abbrev pub from : List Choice → At → Rest → Seen
-from all a rest = seen a.log (rest (record { env = a.env; turns = a.turns; choices = drop (length a.log.given) all; rules = a.log.rules }))
+from all a rest = seen a.log (rest (record { env = a.env; turns = a.turns; calls = a.calls; choices = drop (length a.log.given) all; rules = a.log.rules }))
 
 -- as much of what is shown as was told
 abbrev pub front : Option (List Trace) → Option (List Trace) → Option (List Trace)
@@ -79,7 +80,7 @@ Keeps old new = ((all : List Choice) → Fits all new.log.given → Fits all old
 
 -- a part that does nothing but fail didn't go on
 abbrev pub Fails : ScriptError → Halt → Type 0
-Fails e x = (env : Workspace) (turns : ℕ) (l : Log) (h : ScriptError → Rest) (all : List Choice) → view x l (from all (record { env = env; turns = turns; log = l }) (h e)) ≡ viewed x l (λ y. from all (record { env = env; turns = turns; log = l }) (h y))
+Fails e x = (env : Workspace) (turns calls : ℕ) (l : Log) (h : ScriptError → Rest) (all : List Choice) → view x l (from all (record { env = env; turns = turns; calls = calls; log = l }) (h e)) ≡ viewed x l (λ y. from all (record { env = env; turns = turns; calls = calls; log = l }) (h y))
 
 -- a part has come so far: what is left of it from here is what it was from there
 abbrev pub Comes : {A : Type 0} → Running A → At → Running A → At → Type 0

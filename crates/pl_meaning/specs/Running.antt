@@ -1,29 +1,30 @@
 -- How parts of a run are put together. A part is given what the run comes to behind it, with its value or
 -- with its error, and says what the run comes to in front of it. So a part is read from left to right, and
 -- nothing has to be said of parts that are not reached.
-use Rattle.std.specs.Prelude.{ℕ, List, [], ◌∷◌, ◌++◌, Bool, true, false, if◌then◌else◌, Option, Some, None}
+use Rattle.std.specs.Prelude.{ℕ, List, [], ◌++◌, Bool, true, false, if◌then◌else◌, Option, Some, None}
 use Rattle.pl_base.specs.declared.errors.ErrKind.{ErrKind}
 use Rattle.pl_base.specs.declared.errors.ErrKind.TheVariants.{Spent, TooDeep}
 use Rattle.pl_base.specs.declared.errors.ScriptError.{ScriptError}
 use Rattle.pl_meaning.specs.declared.event.Event.{Event}
 use Rattle.pl_base.specs.declared.choice.Choice.{Choice}
 use Rattle.pl_meaning.specs.declared.event.Answer.{Answer}
-use Rattle.pl_meaning.specs.Logs.{Workspace, Trace, Question, Rules, shows}
+use Rattle.pl_meaning.specs.Logs.{Workspace, Trace, Asked, Reply, Rules, keeping, shows}
 
--- where a run stands: its workspace, the turns that are left, the choices that it hasn't used, and the rules by which a
--- choice answers a question
+-- where a run stands: its workspace, the turns that are left, how many calls were started so far, the choices that it hasn't
+-- used, and the rules by which choices answer a question
 pub record State : Type 0 where
   pub env : Workspace
   pub turns : ℕ
+  pub calls : ℕ
   pub choices : List Choice
   pub rules : Rules
 
--- how a run ends: done or by an error, with the choices that are left over; or at a question that the next choice doesn't
+-- how a run ends: done or by an error, with the choices that are left over; or at a question that the next choices don't
 -- answer
 pub data Ending : Type 0 where
   Done : Workspace → List Choice → Ending
   Raised : ScriptError → List Choice → Ending
-  Asks : Question → Workspace → Ending
+  Asks : Asked → Workspace → Ending
 
 -- what a run shows, and how it ends
 pub record Outcome : Type 0 where
@@ -73,17 +74,13 @@ inside env p = λ k h s. p (λ a t. k a (record t { env = s.env })) (λ e t. h e
 unfoldable pub tell : Event → Running (Unit {0})
 tell e = λ k h s. before (shows e) (k tt s)
 
--- a question: the answer under the next choice, or the end of what is known
-abbrev pub waits : {A : Type 0} → Question → Running A
+-- a question: the answer under the next choices, or the end of what is known
+abbrev pub waits : {A : Type 0} → Asked → Running A
 waits q = λ k h s. record { shown = []; ending = Asks q s.env }
 
-abbrev pub answered_by : Question → List Choice → Option Answer → Running Answer
-answered_by q more None = waits q
-answered_by q more (Some a) = λ k h s. k a (record s { choices = more })
+abbrev pub answered_by : Asked → Option Reply → Running Answer
+answered_by q None = waits q
+answered_by q (Some r) = λ k h s. k r.answer (record s { choices = r.left; rules = keeping s.rules r.kept })
 
-abbrev pub answer_of : Question → List Choice → Running Answer
-answer_of q [] = waits q
-answer_of q (c ∷ more) = λ k h s. answered_by q more (s.rules q s.env c) k h s
-
-unfoldable pub ask : Question → Running Answer
-ask q = λ k h s. answer_of q s.choices k h s
+unfoldable pub ask : Asked → Running Answer
+ask q = λ k h s. answered_by q (s.rules.reply s.rules.kept q s.env s.choices) k h s

@@ -13,9 +13,9 @@ use Rattle.pl_meaning.specs.Logs.{Workspace, Trace, Log, Rules, grown, rose}
 use Rattle.pl_meaning.specs.Running.{Outcome, Done, Raised, Rest}
 use Rattle.pl_meaning.specs.Parts.{below, block_in}
 
--- where the statements of a script stand
+-- where the statements of a script stand: on the client
 abbrev pub outermost : Frame
-outermost = record { scope = 0; given = 0; wanted = 0; ends = None }
+outermost = record { client = true; scope = 0; given = 0; wanted = 0; ends = None }
 
 -- behind the last statement, and behind an error that nothing caught
 abbrev pub finished : Exit → Rest
@@ -26,7 +26,7 @@ failed e = λ s. record { shown = []; ending = Raised e s.choices }
 
 -- the run of statements of a scope from this workspace, with so many turns and levels, by these rules under these choices
 abbrev pub run_of : Resolved → Frame → List Stmt → Workspace → ℕ → ℕ → Rules → List Choice → Outcome
-run_of program f body start turns depth rules choices = block_in program (below program depth) f body finished failed (record { env = start; turns = turns; choices = choices; rules = rules })
+run_of program f body start turns depth rules choices = block_in program (below program depth) f body finished failed (record { env = start; turns = turns; calls = 0; choices = choices; rules = rules })
 
 -- the run of a script
 unfoldable pub Run : Resolved → Workspace → ℕ → ℕ → Rules → List Choice → Outcome

@@ -12,8 +12,16 @@ pub enum Event {
     Print(Text),
 }
 
-/// A question of a run to its world: a loop over workers that is to be run, with the scope in which it stands, its
-/// place, its index, its body, the first value of its index and the count of its iterations.
+/// A question of a run to its world.
+pub enum Question<'p> {
+    Loop(Loop<'p>),
+    /// An extra, by its number in the program's table: its operands, and how many outputs it is asked for. The client
+    /// alone asks it.
+    Extra(u32, Seq<Value>, u32),
+}
+
+/// A loop over workers that is to be run, with the scope in which it stands, its place, its index, its body, the first
+/// value of its index and the count of its iterations.
 #[derive(Clone, Copy)]
 pub struct Loop<'p> {
     pub scope: usize,
@@ -38,6 +46,18 @@ pub enum Answer {
     Raised(ScriptError),
     /// The loop is done.
     Looped(Looped),
+    /// What an extra answers, the text that is printed for it first, and how many calls it started.
+    Extra(ExtraAnswer, Text, u32),
+}
+
+/// What an extra answers.
+#[derive(Debug, Drop)]
+pub enum ExtraAnswer {
+    /// Its outputs.
+    Values(Seq<Value>),
+    /// An error, with its text. It has a place where it is that of a call which the extra reads; else it is raised
+    /// where the extra stands.
+    Raised(ErrKind, Text, Option<Place>),
 }
 
 /// What a loop that is done comes to: the text that its iterations printed, in their order, and the variables that

@@ -1,8 +1,10 @@
-//! Where a part stands: in which scope, in which call, inside which index.
+//! Where a part stands: on the client or away from it, in which scope, in which call, inside which index.
 
 /// The frame of a part.
 #[derive(Clone, Copy, Debug)]
 pub struct Frame {
+    /// Whether the client runs it. An iteration of a loop over workers is run away from the client.
+    pub client: bool,
     /// The number of the scope: 0 for the script, and from 1 on the local functions in order.
     pub scope: usize,
     /// How many arguments the call of the function has, and how many outputs it is asked for.

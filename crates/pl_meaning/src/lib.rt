@@ -13,6 +13,7 @@
 
 mod ended;
 mod event;
+mod extras;
 mod frame;
 mod halt;
 mod known;
@@ -21,7 +22,8 @@ mod naming;
 mod world;
 
 pub use ended::Ended;
-pub use event::{Answer, Bounds, Clash, Event, Loop, Looped, Output};
+pub use event::{Answer, Bounds, Clash, Event, ExtraAnswer, Loop, Looped, Output, Question};
+pub use extras::{binary_door, function_door, read_door, read_operands, unary_door};
 pub use frame::{Ends, Exit, Frame};
 pub use halt::{Halt, Stop};
 pub use known::{Known, Own};

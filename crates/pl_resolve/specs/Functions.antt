@@ -45,10 +45,21 @@ place_in names name = position (pointwise nat_eq name) names
 abbrev pub local_names : List Function → List (List ℕ)
 local_names functions = map (λ f. f.name.text) functions
 
-abbrev pub or_table : ℕ → Option ℕ → Option ℕ → Option ℕ
-or_table count (Some place) table = Some place
-or_table count None table = option_map (λ place. count + place) table
+-- the texts of the extras that a program's table has, in the order of their numbers. An extra is no part of the language: the
+-- world of a run answers it. A text is an operator's sign, a function's name, or `()` for an indexed read. None is built yet
+unfoldable pub extra_names : List (List ℕ)
+extra_names = []
 
--- a local function's number is its place, and those of the table are numbered on from there; a local one hides one of the table
-abbrev pub number_of : List (List ℕ) → List ℕ → Option ℕ
-number_of locals name = or_table (length locals) (place_in locals name) (place_in function_names name)
+-- the functions that a program can name: its own, those of the language, and the extras of a table
+pub record Table : Type 0 where
+  pub locals : List (List ℕ)
+  pub extras : List (List ℕ)
+
+abbrev pub behind : ℕ → Option ℕ → Option ℕ → Option ℕ
+behind count (Some place) later = Some place
+behind count None later = option_map (λ place. count + place) later
+
+-- a local function's number is its place, those of the language are numbered on from there, and then the extras; an earlier one
+-- hides a later one
+abbrev pub number_of : Table → List ℕ → Option ℕ
+number_of t name = behind (length t.locals) (place_in t.locals name) (behind (length function_names) (place_in function_names name) (place_in t.extras name))

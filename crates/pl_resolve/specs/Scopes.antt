@@ -10,7 +10,7 @@ use Rattle.pl_resolve.specs.declared.fault.NameFault.{NameFault}
 use Rattle.pl_resolve.specs.declared.occurrence.Occurrence.{Occurrence}
 use Rattle.pl_resolve.specs.declared.occurrence.Use.{Use}
 use Rattle.pl_resolve.specs.declared.occurrence.Use.TheVariants.{Assign, AssignAt, AssignIn, Handle}
-use Rattle.pl_resolve.specs.Functions.{local_names, number_of}
+use Rattle.pl_resolve.specs.Functions.{Table, extra_names, local_names, number_of}
 use Rattle.pl_resolve.specs.Occurrences.{used, of_block}
 
 -- names in order, each where it first stands
@@ -44,13 +44,13 @@ abbrev pub scope_of : List (List ℕ) → List Occurrence → List (List ℕ)
 scope_of vars names = distinct (map (λ o. o.name) (filter (is_variable vars) names))
 
 -- a name that is a variable or a function
-abbrev pub is_known : List (List ℕ) → List (List ℕ) → Occurrence → Bool
-is_known locals vars o = is_variable vars o || is_some (number_of locals o.name)
+abbrev pub is_known : Table → List (List ℕ) → Occurrence → Bool
+is_known t vars o = is_variable vars o || is_some (number_of t o.name)
 
 -- the first name that is neither
-abbrev pub first_unknown : List (List ℕ) → List (List ℕ) → List Occurrence → Option NameFault
-first_unknown locals vars [] = None
-first_unknown locals vars (o ∷ names) = if is_known locals vars o then first_unknown locals vars names else Some (record { name = o.name; place = o.place })
+abbrev pub first_unknown : Table → List (List ℕ) → List Occurrence → Option NameFault
+first_unknown t vars [] = None
+first_unknown t vars (o ∷ names) = if is_known t vars o then first_unknown t vars names else Some (record { name = o.name; place = o.place })
 
 -- the names of parameters; one may have no name
 abbrev pub of_params : List (Option Name) → List Occurrence
@@ -74,17 +74,17 @@ function_text f = record { own = codes "nargin" ∷ codes "nargout" ∷ []; name
 abbrev pub scope_in : Text → List (List ℕ)
 scope_in t = scope_of (variables t.own t.names) t.names
 
-abbrev pub unknown_in : List (List ℕ) → Text → Option NameFault
-unknown_in locals t = first_unknown locals (variables t.own t.names) t.names
+abbrev pub unknown_in : Table → Text → Option NameFault
+unknown_in table t = first_unknown table (variables t.own t.names) t.names
 
 abbrev pub or_later : Option NameFault → Option NameFault → Option NameFault
 or_later (Some fault) later = Some fault
 or_later None later = later
 
 -- the first unknown name of texts
-abbrev pub unknown_among : List (List ℕ) → List Text → Option NameFault
-unknown_among locals [] = None
-unknown_among locals (t ∷ texts) = or_later (unknown_in locals t) (unknown_among locals texts)
+abbrev pub unknown_among : Table → List Text → Option NameFault
+unknown_among table [] = None
+unknown_among table (t ∷ texts) = or_later (unknown_in table t) (unknown_among table texts)
 
 -- the script, and then the functions in order
 abbrev pub texts_of : Program → List Text
@@ -94,6 +94,13 @@ texts_of p = script_text p ∷ map function_text p.functions
 abbrev pub scopes_of : Program → List (List (List ℕ))
 scopes_of p = map scope_in (texts_of p)
 
--- the first name of a program that stands for nothing
+-- the functions that a program can name beside a table of extras
+abbrev pub table_of : List (List ℕ) → Program → Table
+table_of extras p = record { locals = local_names p.functions; extras = extras }
+
+-- the first name of a program that stands for nothing, beside a table of extras and beside the one that is built
+abbrev pub unknown_beside : List (List ℕ) → Program → Option NameFault
+unknown_beside extras p = unknown_among (table_of extras p) (texts_of p)
+
 abbrev pub unknown_of : Program → Option NameFault
-unknown_of p = unknown_among (local_names p.functions) (texts_of p)
+unknown_of p = unknown_beside extra_names p

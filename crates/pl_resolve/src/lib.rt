@@ -6,6 +6,7 @@
 #![tactic(auto)]
 
 mod expressions;
+mod extras;
 mod fault;
 mod functions;
 mod occurrence;
@@ -14,12 +15,13 @@ mod resolving;
 mod scope;
 mod statements;
 
+pub use extras::{EXTRAS, extra_table};
 pub use fault::NameFault;
-pub use functions::{Functions, function_number, table_name};
+pub use functions::{Functions, function_number, is_function_name, name_behind};
 pub use occurrence::{Occurrence, Use};
 pub use pl_values::{CoPart, Env, PartScheme, Serial, Value};
 pub use resolved::Resolved;
-pub use resolving::resolve;
+pub use resolving::{resolve, resolve_beside};
 pub use scope::Scope;
 pub use statements::occurrences;
 

@@ -7,17 +7,19 @@ ghost use Rattle.pl_base.specs.declared.memory.Or.{Or};
 ghost use Rattle.pl_base.specs.declared.mode.Mode.{Mode};
 ghost use Rattle.pl_resolve.specs.declared.fault.NameFault.{NameFault};
 ghost use Rattle.pl_resolve.specs.declared.occurrence.Use.TheVariants.{Assign};
+ghost use Rattle.pl_resolve.specs.Functions.{extra_names};
 ghost use Rattle.pl_resolve.specs.Occurrences.{used};
 ghost use Rattle.pl_resolve.specs.Scopes as spec;
 
 use crate::expressions::add;
+use crate::extras::extra_table;
 use crate::fault::NameFault;
 use crate::functions::Functions;
 use crate::occurrence::{Occurrence, Use};
 use crate::resolved::Resolved;
 use crate::scope::Scope;
 use crate::statements::add_block;
-use pl_base::{Mode, NoMemory, Or, Seq};
+use pl_base::{Mode, NoMemory, Or, Seq, Text};
 use pl_syntax::{Function, Name, Program};
 use std::alloc::Global;
 
@@ -184,12 +186,29 @@ pub fn resolve(alloc: Global, program: Program) -> Result<Resolved, Or<NameFault
     ensures program { IfOk result (λ r. r.program ≡ program) }
     ensures scopes { IfOk result (λ r. r.scopes ≡ spec.scopes_of program) }
     ensures mode { IfOk result (λ r. r.mode ≡ Mode.Saturate) }
+    ensures extras { IfOk result (λ r. r.extras ≡ extra_names) }
     // A program is resolved only where each name is known.
     ensures known { OnOk result (spec.unknown_of program ≡ None) }
     // It is refused for the first unknown name alone.
     ensures unknown { (fault : NameFault) → result ≡ Err (Or.Is fault) → spec.unknown_of program ≡ Some fault }
 {
-    let functions = Functions::of(alloc, &program.functions)?;
+    resolve_beside(alloc, program, extra_table(alloc)?)
+}
+
+/// The same beside a table of extras of one's own. A name of the table is a function.
+pub fn resolve_beside(
+    alloc: Global,
+    program: Program,
+    extras: Seq<Text>,
+) -> Result<Resolved, Or<NameFault>>
+    ensures program { IfOk result (λ r. r.program ≡ program) }
+    ensures scopes { IfOk result (λ r. r.scopes ≡ spec.scopes_of program) }
+    ensures mode { IfOk result (λ r. r.mode ≡ Mode.Saturate) }
+    ensures extras { IfOk result (λ r. r.extras ≡ extras) }
+    ensures known { OnOk result (spec.unknown_beside extras program ≡ None) }
+    ensures unknown { (fault : NameFault) → result ≡ Err (Or.Is fault) → spec.unknown_beside extras program ≡ Some fault }
+{
+    let functions = Functions::of(alloc, &program.functions, extras)?;
     let mut scopes = Seq::empty(alloc);
     scopes.push(script_scope(alloc, &functions, &program)?)?;
     add_scopes(alloc, &mut scopes, &functions, program.functions.as_slice())?;
@@ -197,5 +216,6 @@ pub fn resolve(alloc: Global, program: Program) -> Result<Resolved, Or<NameFault
         program,
         scopes,
         mode: Mode::Saturate,
+        extras: functions.into_extras(),
     })
 }

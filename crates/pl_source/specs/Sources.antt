@@ -10,6 +10,7 @@ use Rattle.pl_grammar.specs.declared.fault.FaultKind.{FaultKind}
 use Rattle.pl_parse.specs.Faults.{IsProgram, Faults as FaultsOf}
 use Rattle.pl_resolve.specs.declared.resolved.Resolved.{Resolved}
 use Rattle.pl_resolve.specs.declared.fault.NameFault.{NameFault}
+use Rattle.pl_resolve.specs.Functions.{extra_names}
 use Rattle.pl_resolve.specs.Scopes.{scopes_of, unknown_of}
 use Rattle.pl_unbuilt.specs.Unbuilt.{unbuilt_of}
 use Rattle.pl_source.specs.Lines.{lex_name, fault_name, syntax_line, unknown_line, not_built_line}
@@ -20,9 +21,9 @@ pub record Reads (source : List ℕ) (program : Program) : Type 0 where
   pub lexes : Lexes source tokens
   pub parses : IsProgram source tokens program
 
--- a program with its scopes
+-- a program with its scopes, beside the extras that are built
 abbrev pub resolved : Program → Resolved
-resolved p = record { program = p; scopes = scopes_of p; mode = Saturate }
+resolved p = record { program = p; scopes = scopes_of p; mode = Saturate; extras = extra_names }
 
 -- the source is a program all of which can be carried out
 pub record Ready (source : List ℕ) (r : Resolved) : Type 0 where

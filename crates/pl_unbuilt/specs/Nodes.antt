@@ -160,9 +160,9 @@ module _ (program : Resolved) (f : Frame) where
   abbrev pub of_arms : List Arm → List Place
   of_arms arms = joined (map of_arm arms)
 
--- where the statements of a scope stand
+-- where the bodies of a scope's loops over workers stand: away from the client
 abbrev pub frame_of : ℕ → Frame
-frame_of scope = record { scope = scope; given = 0; wanted = 0; ends = None }
+frame_of scope = record { client = false; scope = scope; given = 0; wanted = 0; ends = None }
 
 -- the nodes of functions, the scope of the first of which has this number
 abbrev pub of_functions : Resolved → ℕ → List Function → List Place

@@ -5,7 +5,7 @@ ghost use Rattle.pl_resolve.specs.Functions.{local_names};
 ghost use Rattle.pl_resolve.specs.Occurrences.{of_block};
 ghost use Rattle.pl_resolve.specs.Scopes.{is_handle as is_handle_use, is_among};
 ghost use Rattle.pl_meaning.specs.Names.{names_in};
-ghost use Rattle.pl_unbuilt.specs.Unbuilt.{is_variable_in, is_built as is_built_in, first_name as first_among, name_among, name_of};
+ghost use Rattle.pl_unbuilt.specs.Unbuilt.{is_variable_in, is_function as is_function_in, is_built as is_built_in, table_of, first_name as first_among, name_among, name_of};
 
 use pl_base::{NoMemory, Place, Text};
 use pl_meaning::Known;
@@ -42,12 +42,27 @@ fn is_local(functions: &[Function], name: &Text) -> bool
     false
 }
 
-fn is_built(resolved: &Resolved, i: usize, o: &Occurrence) -> bool
-    ensures { result ≡ is_built_in (local_names resolved.now.program.functions) (names_in resolved.now i) o.now }
+/// Whether a program's table of extras has this name.
+fn is_extra(resolved: &Resolved, name: &Text) -> bool
+    ensures { result ≡ is_among resolved.now.extras name.now }
 {
-    is_variable(resolved, i, o)
-        || is_local(resolved.program.functions.as_slice(), &o.name)
-        || Known::of(o.name.bytes()).is_some()
+    let extras = resolved.extras.items();
+    extras.iter().any(|extra| name.bytes() == extra.bytes())
+}
+
+/// Whether a name stands for a function, or for an extra.
+fn is_function(resolved: &Resolved, name: &Text) -> bool
+    ensures { result ≡ is_function_in (table_of resolved.now) name.now }
+{
+    is_local(resolved.program.functions.as_slice(), name)
+        || Known::of(name.bytes()).is_some()
+        || is_extra(resolved, name)
+}
+
+fn is_built(resolved: &Resolved, i: usize, o: &Occurrence) -> bool
+    ensures { result ≡ is_built_in (table_of resolved.now) (names_in resolved.now i) o.now }
+{
+    is_variable(resolved, i, o) || is_function(resolved, &o.name)
 }
 
 /// The first name in statements that stands for what isn't carried out.
@@ -57,7 +72,7 @@ fn first_name(
     i: usize,
     body: &Items<Stmt>,
 ) -> Result<Option<Place>, NoMemory>
-    ensures { IfOk result (λ p. p ≡ first_among (local_names resolved.now.program.functions) (names_in resolved.now i) (of_block body.now)) }
+    ensures { IfOk result (λ p. p ≡ first_among (table_of resolved.now) (names_in resolved.now i) (of_block body.now)) }
 {
     let names = occurrences(alloc, body)?;
     for o in names.items() {

@@ -230,6 +230,7 @@ fn add_scope(
     ensures { OnOk result (out.new.items ≡ out.old.items ++ of_block program.now (frame_of scope) body.now) }
 {
     let frame = Frame {
+        client: false,
         scope,
         given: 0,
         wanted: 0,

@@ -1,12 +1,14 @@
 use Rattle.std.proofs.Common.{◌≡◌, ◌+◌, ◌-◌, ◌<◌, [], ◌∷◌, ◌++◌, length, drop, true, false, refl, ◌∙◌, sym, ap, arith}
 use Rattle.pl_meaning.specs.declared.halt.Halt.{Halt}
 use Rattle.pl_meaning.specs.Promises.{view, at, from}
-use Rattle.pl_meaning.specs.Parts.{below, level_at, value_in, outputs_in, listed_in, evaluated, shown_first, title, after_pass, columns_from, passes, looped, first_of, applied, deletion, entry_of, ran, argument_of, values_from, given_of, elements_from, elements as elements_part, rows_from, tested, stmt_in, sequel, block_from, values as values_part, rows as rows_part, block_in, called}
+use Rattle.pl_meaning.specs.Parts.{below, level_at, value_in, outputs_in, listed_in, evaluated, shown_first, title, after_pass, columns_from, passes, looped, first_of, applied, call_name, unary, binary, operator, deletion, entry_of, ran, argument_of, values_from, given_of, elements_from, elements as elements_part, rows_from, tested, stmt_in, sequel, block_from, values as values_part, rows as rows_part, block_in, called}
 use Rattle.pl_eval.proofs.Chains.{after_halts, after_went, comes_after, comes_cut, comes_halts, comes_item, comes_pass, first_halts, goes_on, inside_halts, inside_went, keeps_on, ok_more, same_err, same_halt}
 use Rattle.pl_eval.proofs.Nodes.{call_counted, call_found, compound_apply, compound_binary, compound_func, compound_range, compound_rows, compound_unary, ends_range, inner_for, inner_if, inner_parfor, inner_switch, inner_try, inner_while, stmt_assign, stmt_assign_list, stmt_delete, stmt_eval, stmt_nested, value_chars, value_nested, value_var}
 use Rattle.std.specs.Option.{option_copied}
 use Rattle.pl_eval.proofs.+running.Goals.{loops::repeat-else-loop-pass-test, loops::repeat-then-loop-pass-test+in_ok-test+else-not-branch+in_ok-take_turn+in_ok-block+in-Onward+else-pass-most}
 use Rattle.pl_operators.specs.Bracketing.{chars_of}
+use Rattle.pl_operators.specs.Operating.{unary_of, binary_of}
+use Rattle.pl_syntax.specs.Signs.{unary_sign, binary_sign}
 use Rattle.pl_operators.specs.Columns.{column_of}
 use Rattle.pl_values.specs.declared.value.Value.{Value}
 use Rattle.pl_meaning.specs.Accesses.{fail, take_turn, write}
@@ -169,10 +171,10 @@ lists::rows-loop-list-preserved g t c = let within : c.loop-list.list-index < le
 
 pub lists::values-returns-in_err-push-clause-err : goal.lists::values-returns-in_err-push-clause-err
 unfolding values_part
-lists::values-returns-in_err-push-clause-err g t c = let within : c.loop-e.e-index < length c.args.list.now = omega (arith) in let item0 = comes_item (values_from (value_in c.args.program.now (below c.args.program.now c.args.levels)) c.args.frame c.args.place c.loop-e.done.items) (values_from (value_in c.args.program.now (below c.args.program.now c.args.levels)) c.args.frame c.args.place [] c.args.list.now) c.args.list.now c.loop-e.e-index c.e-item.result (at c.args.memory.now (g.W.World.log c.args.world.now)) (at c.loop-e.memory (g.W.World.log c.loop-e.world)) c.loop-e.invariant within (c.e-item.is) in let item1 = comes_after (values_from (value_in c.args.program.now (below c.args.program.now c.args.levels)) c.args.frame c.args.place [] c.args.list.now) (argument_of (value_in c.args.program.now (below c.args.program.now c.args.levels)) c.args.frame c.e-item.result) (λ a. given_of c.args.place a >>= (λ v. values_from (value_in c.args.program.now (below c.args.program.now c.args.levels)) c.args.frame c.args.place (c.loop-e.done.items ++ v ∷ []) (drop (c.loop-e.e-index + 1) c.args.list.now))) c.in_ok-a.a (at c.args.memory.now (g.W.World.log c.args.world.now)) (at c.loop-e.memory (g.W.World.log c.loop-e.world)) (at c.argument.new.memory (g.W.World.log c.argument.new.world)) item0 (c.in_ok-a.ensures.ok) c.in_ok-a.ensures.keeps in let item2 = comes_after (values_from (value_in c.args.program.now (below c.args.program.now c.args.levels)) c.args.frame c.args.place [] c.args.list.now) (given_of c.args.place c.in_ok-a.a) (λ v. values_from (value_in c.args.program.now (below c.args.program.now c.args.levels)) c.args.frame c.args.place (c.loop-e.done.items ++ v ∷ []) (drop (c.loop-e.e-index + 1) c.args.list.now)) c.in_ok-v.v (at c.args.memory.now (g.W.World.log c.args.world.now)) (at c.argument.new.memory (g.W.World.log c.argument.new.world)) (at c.argument.new.memory (g.W.World.log c.argument.new.world)) item1 (c.in_ok-v.ensures.ok c.argument.new.memory.env c.argument.new.memory.turns (g.W.World.log c.argument.new.world)) ((λ all f. f), (λ ts b. b)) in λ x e. rw (same_halt e c.from_residual-in_err-push.ensures.1) (comes_cut (values_from (value_in c.args.program.now (below c.args.program.now c.args.levels)) c.args.frame c.args.place [] c.args.list.now) (values_from (value_in c.args.program.now (below c.args.program.now c.args.levels)) c.args.frame c.args.place (c.loop-e.done.items ++ c.in_ok-v.v ∷ []) (drop (c.loop-e.e-index + 1) c.args.list.now)) (at c.args.memory.now (g.W.World.log c.args.world.now)) (at c.argument.new.memory (g.W.World.log c.argument.new.world)) item2)
+lists::values-returns-in_err-push-clause-err g t c = let within : c.loop-e.e-index < length c.args.list.now = omega (arith) in let item0 = comes_item (values_from (value_in c.args.program.now (below c.args.program.now c.args.levels)) c.args.frame c.args.place c.loop-e.done.items) (values_from (value_in c.args.program.now (below c.args.program.now c.args.levels)) c.args.frame c.args.place [] c.args.list.now) c.args.list.now c.loop-e.e-index c.e-item.result (at c.args.memory.now (g.W.World.log c.args.world.now)) (at c.loop-e.memory (g.W.World.log c.loop-e.world)) c.loop-e.invariant within (c.e-item.is) in let item1 = comes_after (values_from (value_in c.args.program.now (below c.args.program.now c.args.levels)) c.args.frame c.args.place [] c.args.list.now) (argument_of (value_in c.args.program.now (below c.args.program.now c.args.levels)) c.args.frame c.e-item.result) (λ a. given_of c.args.place a >>= (λ v. values_from (value_in c.args.program.now (below c.args.program.now c.args.levels)) c.args.frame c.args.place (c.loop-e.done.items ++ v ∷ []) (drop (c.loop-e.e-index + 1) c.args.list.now))) c.in_ok-a.a (at c.args.memory.now (g.W.World.log c.args.world.now)) (at c.loop-e.memory (g.W.World.log c.loop-e.world)) (at c.argument.new.memory (g.W.World.log c.argument.new.world)) item0 (c.in_ok-a.ensures.ok) c.in_ok-a.ensures.keeps in let item2 = comes_after (values_from (value_in c.args.program.now (below c.args.program.now c.args.levels)) c.args.frame c.args.place [] c.args.list.now) (given_of c.args.place c.in_ok-a.a) (λ v. values_from (value_in c.args.program.now (below c.args.program.now c.args.levels)) c.args.frame c.args.place (c.loop-e.done.items ++ v ∷ []) (drop (c.loop-e.e-index + 1) c.args.list.now)) c.in_ok-v.v (at c.args.memory.now (g.W.World.log c.args.world.now)) (at c.argument.new.memory (g.W.World.log c.argument.new.world)) (at c.argument.new.memory (g.W.World.log c.argument.new.world)) item1 (c.in_ok-v.ensures.ok c.argument.new.memory.env c.argument.new.memory.turns c.argument.new.memory.calls (g.W.World.log c.argument.new.world)) ((λ all f. f), (λ ts b. b)) in λ x e. rw (same_halt e c.from_residual-in_err-push.ensures.1) (comes_cut (values_from (value_in c.args.program.now (below c.args.program.now c.args.levels)) c.args.frame c.args.place [] c.args.list.now) (values_from (value_in c.args.program.now (below c.args.program.now c.args.levels)) c.args.frame c.args.place (c.loop-e.done.items ++ c.in_ok-v.v ∷ []) (drop (c.loop-e.e-index + 1) c.args.list.now)) (at c.args.memory.now (g.W.World.log c.args.world.now)) (at c.argument.new.memory (g.W.World.log c.argument.new.world)) item2)
 
 pub lists::values-loop-e-preserved : goal.lists::values-loop-e-preserved
-lists::values-loop-e-preserved g t c = let within : c.loop-e.e-index < length c.args.list.now = omega (arith) in let item0 = comes_item (values_from (value_in c.args.program.now (below c.args.program.now c.args.levels)) c.args.frame c.args.place c.loop-e.done.items) (values_from (value_in c.args.program.now (below c.args.program.now c.args.levels)) c.args.frame c.args.place [] c.args.list.now) c.args.list.now c.loop-e.e-index c.e-item.result (at c.args.memory.now (g.W.World.log c.args.world.now)) (at c.loop-e.memory (g.W.World.log c.loop-e.world)) c.loop-e.invariant within (c.e-item.is) in let item1 = comes_after (values_from (value_in c.args.program.now (below c.args.program.now c.args.levels)) c.args.frame c.args.place [] c.args.list.now) (argument_of (value_in c.args.program.now (below c.args.program.now c.args.levels)) c.args.frame c.e-item.result) (λ a. given_of c.args.place a >>= (λ v. values_from (value_in c.args.program.now (below c.args.program.now c.args.levels)) c.args.frame c.args.place (c.loop-e.done.items ++ v ∷ []) (drop (c.loop-e.e-index + 1) c.args.list.now))) c.in_ok-a.a (at c.args.memory.now (g.W.World.log c.args.world.now)) (at c.loop-e.memory (g.W.World.log c.loop-e.world)) (at c.argument.new.memory (g.W.World.log c.argument.new.world)) item0 (c.in_ok-a.ensures.ok) c.in_ok-a.ensures.keeps in let item2 = comes_after (values_from (value_in c.args.program.now (below c.args.program.now c.args.levels)) c.args.frame c.args.place [] c.args.list.now) (given_of c.args.place c.in_ok-a.a) (λ v. values_from (value_in c.args.program.now (below c.args.program.now c.args.levels)) c.args.frame c.args.place (c.loop-e.done.items ++ v ∷ []) (drop (c.loop-e.e-index + 1) c.args.list.now)) c.in_ok-v.v (at c.args.memory.now (g.W.World.log c.args.world.now)) (at c.argument.new.memory (g.W.World.log c.argument.new.world)) (at c.argument.new.memory (g.W.World.log c.argument.new.world)) item1 (c.in_ok-v.ensures.ok c.argument.new.memory.env c.argument.new.memory.turns (g.W.World.log c.argument.new.world)) ((λ all f. f), (λ ts b. b)) in rw c.in_ok-push.ensures.items (item2, keeps_on (at c.args.memory.now (g.W.World.log c.args.world.now)) (at c.loop-e.memory (g.W.World.log c.loop-e.world)) (at c.argument.new.memory (g.W.World.log c.argument.new.world)) c.loop-e.invariant.1 (c.in_ok-a.ensures.keeps))
+lists::values-loop-e-preserved g t c = let within : c.loop-e.e-index < length c.args.list.now = omega (arith) in let item0 = comes_item (values_from (value_in c.args.program.now (below c.args.program.now c.args.levels)) c.args.frame c.args.place c.loop-e.done.items) (values_from (value_in c.args.program.now (below c.args.program.now c.args.levels)) c.args.frame c.args.place [] c.args.list.now) c.args.list.now c.loop-e.e-index c.e-item.result (at c.args.memory.now (g.W.World.log c.args.world.now)) (at c.loop-e.memory (g.W.World.log c.loop-e.world)) c.loop-e.invariant within (c.e-item.is) in let item1 = comes_after (values_from (value_in c.args.program.now (below c.args.program.now c.args.levels)) c.args.frame c.args.place [] c.args.list.now) (argument_of (value_in c.args.program.now (below c.args.program.now c.args.levels)) c.args.frame c.e-item.result) (λ a. given_of c.args.place a >>= (λ v. values_from (value_in c.args.program.now (below c.args.program.now c.args.levels)) c.args.frame c.args.place (c.loop-e.done.items ++ v ∷ []) (drop (c.loop-e.e-index + 1) c.args.list.now))) c.in_ok-a.a (at c.args.memory.now (g.W.World.log c.args.world.now)) (at c.loop-e.memory (g.W.World.log c.loop-e.world)) (at c.argument.new.memory (g.W.World.log c.argument.new.world)) item0 (c.in_ok-a.ensures.ok) c.in_ok-a.ensures.keeps in let item2 = comes_after (values_from (value_in c.args.program.now (below c.args.program.now c.args.levels)) c.args.frame c.args.place [] c.args.list.now) (given_of c.args.place c.in_ok-a.a) (λ v. values_from (value_in c.args.program.now (below c.args.program.now c.args.levels)) c.args.frame c.args.place (c.loop-e.done.items ++ v ∷ []) (drop (c.loop-e.e-index + 1) c.args.list.now)) c.in_ok-v.v (at c.args.memory.now (g.W.World.log c.args.world.now)) (at c.argument.new.memory (g.W.World.log c.argument.new.world)) (at c.argument.new.memory (g.W.World.log c.argument.new.world)) item1 (c.in_ok-v.ensures.ok c.argument.new.memory.env c.argument.new.memory.turns c.argument.new.memory.calls (g.W.World.log c.argument.new.world)) ((λ all f. f), (λ ts b. b)) in rw c.in_ok-push.ensures.items (item2, keeps_on (at c.args.memory.now (g.W.World.log c.args.world.now)) (at c.loop-e.memory (g.W.World.log c.loop-e.world)) (at c.argument.new.memory (g.W.World.log c.argument.new.world)) c.loop-e.invariant.1 (c.in_ok-a.ensures.keeps))
 
 pub statements::block-loop-s-preserved : goal.statements::block-loop-s-preserved
 statements::block-loop-s-preserved g t c = let within : c.loop-s.s-index < length c.args.statements.now = omega (arith, ap length c.as_slice-s-items.ensures) in let item0 = comes_item (block_from c.args.program.now (below c.args.program.now c.args.levels) c.args.frame) (block_from c.args.program.now (below c.args.program.now c.args.levels) c.args.frame c.args.statements.now) c.args.statements.now c.loop-s.s-index c.s-item.result (at c.args.memory.now (g.W.World.log c.args.world.now)) (at c.loop-s.memory (g.W.World.log c.loop-s.world)) c.loop-s.invariant within (rw c.as_slice-s-items.ensures at c.s-item.is) in let item1 = comes_after (block_from c.args.program.now (below c.args.program.now c.args.levels) c.args.frame c.args.statements.now) (stmt_in c.args.program.now (below c.args.program.now c.args.levels) c.args.frame c.s-item.result) (λ x. sequel c.args.program.now x (block_from c.args.program.now (below c.args.program.now c.args.levels) c.args.frame (drop (c.loop-s.s-index + 1) c.args.statements.now))) c.in_ok-statement.field-0 (at c.args.memory.now (g.W.World.log c.args.world.now)) (at c.loop-s.memory (g.W.World.log c.loop-s.world)) (at c.statement.new.memory (g.W.World.log c.statement.new.world)) item0 (c.in_ok-statement.ensures.ok) c.in_ok-statement.ensures.keeps in (rw c.in-Onward.is at item1, keeps_on (at c.args.memory.now (g.W.World.log c.args.world.now)) (at c.loop-s.memory (g.W.World.log c.loop-s.world)) (at c.statement.new.memory (g.W.World.log c.statement.new.world)) c.loop-s.invariant.1 c.in_ok-statement.ensures.keeps)
@@ -222,10 +224,10 @@ pub calling::call_known-returns-in-Some-clause-err : goal.calling::call_known-re
 calling::call_known-returns-in-Some-clause-err g t c = rw c.in-Some.is (c.call_library.ensures.err)
 
 pub local::call-returns-clause-ok : goal.local::call-returns-clause-ok
-local::call-returns-clause-ok g t c = rw (call_found c.args.program.now (below c.args.program.now c.args.levels) c.args.place c.args.i c.args.wanted c.args.given.items c.index-functions-i.result (slice_get_read c.args.program.now.program.functions _ c.args.i c.index-functions-i.result refl (omega (arith, ap length c.as_slice-functions.ensures)) (rw c.as_slice-functions.ensures at c.index-functions-i.is))) (rw (c.frame_of-frame.ensures, c.len.ensures, c.args.given.ok.0) at (c.checked.ensures.ok))
+local::call-returns-clause-ok g t c = rw (call_found c.args.program.now (below c.args.program.now c.args.levels) c.args.client c.args.place c.args.i c.args.wanted c.args.given.items c.index-functions-i.result (slice_get_read c.args.program.now.program.functions _ c.args.i c.index-functions-i.result refl (omega (arith, ap length c.as_slice-functions.ensures)) (rw c.as_slice-functions.ensures at c.index-functions-i.is))) (rw (c.frame_of-frame.ensures, c.len.ensures, c.args.given.ok.0) at (c.checked.ensures.ok))
 
 pub local::call-returns-clause-err : goal.local::call-returns-clause-err
-local::call-returns-clause-err g t c = rw (call_found c.args.program.now (below c.args.program.now c.args.levels) c.args.place c.args.i c.args.wanted c.args.given.items c.index-functions-i.result (slice_get_read c.args.program.now.program.functions _ c.args.i c.index-functions-i.result refl (omega (arith, ap length c.as_slice-functions.ensures)) (rw c.as_slice-functions.ensures at c.index-functions-i.is))) (rw (c.frame_of-frame.ensures, c.len.ensures, c.args.given.ok.0) at (c.checked.ensures.err))
+local::call-returns-clause-err g t c = rw (call_found c.args.program.now (below c.args.program.now c.args.levels) c.args.client c.args.place c.args.i c.args.wanted c.args.given.items c.index-functions-i.result (slice_get_read c.args.program.now.program.functions _ c.args.i c.index-functions-i.result refl (omega (arith, ap length c.as_slice-functions.ensures)) (rw c.as_slice-functions.ensures at c.index-functions-i.is))) (rw (c.frame_of-frame.ensures, c.len.ensures, c.args.given.ok.0) at (c.checked.ensures.err))
 
 pub local::body-returns-clause-ok : goal.local::body-returns-clause-ok
 local::body-returns-clause-ok g t c = rw c.replace-caller.ensures.value (ok_more c.results_of-outputs.result _ _ (λ v w. inside_went (entry_of c.args.program.now c.args.frame c.args.g.now c.args.given.items) (ran c.args.program.now (level_at c.args.program.now (below c.args.program.now c.args.levels)) c.args.frame c.args.place c.args.g.now) (at c.args.memory.now (g.W.World.log c.args.world.now)) (at c.results_of-outputs.new.memory (g.W.World.log c.results_of-outputs.new.world)) v.items w) (rw (c.replace-caller.ensures.after ∙ c.in_ok-env.ensures.ok) at (c.results_of-outputs.ensures.ok)))
@@ -240,25 +242,25 @@ pub local::checked-returns-in-false-clause-err : goal.local::checked-returns-in-
 local::checked-returns-in-false-clause-err g t c = rw (call_counted c.args.program.now (below c.args.program.now c.args.levels) c.args.frame c.args.place c.args.g.now c.args.given.items (cc)) (c.begin.ensures.err)
 
 pub expressions::compound-returns-in-Func-clause-ok : goal.expressions::compound-returns-in-Func-clause-ok
-expressions::compound-returns-in-Func-clause-ok g t c = rw (compound_func c.args.program.now (level_at c.args.program.now (below c.args.program.now c.args.levels)) c.args.frame c.args.e.now _ c.in-Func.is) (ok_more c.handle.result _ _ (λ v w. w c.args.memory.now.env c.args.memory.now.turns (g.W.World.log c.args.world.now)) (c.handle.ensures.ok))
+expressions::compound-returns-in-Func-clause-ok g t c = rw (compound_func c.args.program.now (level_at c.args.program.now (below c.args.program.now c.args.levels)) c.args.frame c.args.e.now _ c.in-Func.is) (ok_more c.handle.result _ _ (λ v w. w c.args.memory.now.env c.args.memory.now.turns c.args.memory.now.calls (g.W.World.log c.args.world.now)) (c.handle.ensures.ok))
 
 pub expressions::compound-returns-in-Func-clause-err : goal.expressions::compound-returns-in-Func-clause-err
-expressions::compound-returns-in-Func-clause-err g t c = rw (compound_func c.args.program.now (level_at c.args.program.now (below c.args.program.now c.args.levels)) c.args.frame c.args.e.now _ c.in-Func.is) (λ x e. c.handle.ensures.err x e c.args.memory.now.env c.args.memory.now.turns (g.W.World.log c.args.world.now))
+expressions::compound-returns-in-Func-clause-err g t c = rw (compound_func c.args.program.now (level_at c.args.program.now (below c.args.program.now c.args.levels)) c.args.frame c.args.e.now _ c.in-Func.is) (λ x e. c.handle.ensures.err x e c.args.memory.now.env c.args.memory.now.turns c.args.memory.now.calls (g.W.World.log c.args.world.now))
 
 pub expressions::value-returns-in_ok-chars-in-Chars-clause-ok : goal.expressions::value-returns-in_ok-chars-in-Chars-clause-ok
 expressions::value-returns-in_ok-chars-in-Chars-clause-ok g t c = λ k h all f. rw (value_chars c.args.program.now (below c.args.program.now c.args.levels) c.args.frame c.args.e.now _ c.in-Chars.is) (ap (λ (v : _). from all (at c.args.memory.now (g.W.World.log c.args.world.now)) (k v)) (sym (c.in_ok-chars-in-Chars.ensures ∙ ap chars_of c.bytes.ensures)))
 
 pub expressions::called_alone-returns-clause-ok : goal.expressions::called_alone-returns-clause-ok
-expressions::called_alone-returns-clause-ok g t c = ok_more c.first_of.result _ _ (λ v w. after_went (called c.args.program.now (below c.args.program.now c.args.levels) c.args.frame c.args.place c.args.name.now 1 []) (λ vs. first_of c.args.name.now.place vs) (at c.args.memory.now (g.W.World.log c.args.world.now)) (at c.called.new.memory (g.W.World.log c.called.new.world)) (at c.called.new.memory (g.W.World.log c.called.new.world)) c.in_ok-outputs.outputs.items v (c.in_ok-outputs.ensures.ok) ((λ all f. f), (λ ts b. b)) (w c.called.new.memory.env c.called.new.memory.turns (g.W.World.log c.called.new.world))) (c.first_of.ensures.ok)
+expressions::called_alone-returns-clause-ok g t c = ok_more c.first_of.result _ _ (λ v w. after_went (called c.args.program.now (below c.args.program.now c.args.levels) c.args.frame c.args.place c.args.name.now 1 []) (λ vs. first_of c.args.name.now.place vs) (at c.args.memory.now (g.W.World.log c.args.world.now)) (at c.called.new.memory (g.W.World.log c.called.new.world)) (at c.called.new.memory (g.W.World.log c.called.new.world)) c.in_ok-outputs.outputs.items v (c.in_ok-outputs.ensures.ok) ((λ all f. f), (λ ts b. b)) (w c.called.new.memory.env c.called.new.memory.turns c.called.new.memory.calls (g.W.World.log c.called.new.world))) (c.first_of.ensures.ok)
 
 pub expressions::called_alone-returns-clause-err : goal.expressions::called_alone-returns-clause-err
-expressions::called_alone-returns-clause-err g t c = λ x e. after_halts (called c.args.program.now (below c.args.program.now c.args.levels) c.args.frame c.args.place c.args.name.now 1 []) (λ vs. first_of c.args.name.now.place vs) (at c.args.memory.now (g.W.World.log c.args.world.now)) (at c.called.new.memory (g.W.World.log c.called.new.world)) (at c.called.new.memory (g.W.World.log c.called.new.world)) c.in_ok-outputs.outputs.items x (c.in_ok-outputs.ensures.ok) ((λ all f. f), (λ ts b. b)) (c.first_of.ensures.err x e c.called.new.memory.env c.called.new.memory.turns (g.W.World.log c.called.new.world))
+expressions::called_alone-returns-clause-err g t c = λ x e. after_halts (called c.args.program.now (below c.args.program.now c.args.levels) c.args.frame c.args.place c.args.name.now 1 []) (λ vs. first_of c.args.name.now.place vs) (at c.args.memory.now (g.W.World.log c.args.world.now)) (at c.called.new.memory (g.W.World.log c.called.new.world)) (at c.called.new.memory (g.W.World.log c.called.new.world)) c.in_ok-outputs.outputs.items x (c.in_ok-outputs.ensures.ok) ((λ all f. f), (λ ts b. b)) (c.first_of.ensures.err x e c.called.new.memory.env c.called.new.memory.turns c.called.new.memory.calls (g.W.World.log c.called.new.world))
 
 pub applying::applied_once-returns-clause-ok : goal.applying::applied_once-returns-clause-ok
-applying::applied_once-returns-clause-ok g t c = ok_more c.first_of.result _ _ (λ v w. after_went (applied c.args.program.now (level_at c.args.program.now (below c.args.program.now c.args.levels)) c.args.frame c.args.name.now 1 c.args.list.now) (λ vs. first_of c.args.name.now.place vs) (at c.args.memory.now (g.W.World.log c.args.world.now)) (at c.applied.new.memory (g.W.World.log c.applied.new.world)) (at c.applied.new.memory (g.W.World.log c.applied.new.world)) c.in_ok-outputs.outputs.items v (c.in_ok-outputs.ensures.ok) ((λ all f. f), (λ ts b. b)) (w c.applied.new.memory.env c.applied.new.memory.turns (g.W.World.log c.applied.new.world))) (c.first_of.ensures.ok)
+applying::applied_once-returns-clause-ok g t c = ok_more c.first_of.result _ _ (λ v w. after_went (applied c.args.program.now (level_at c.args.program.now (below c.args.program.now c.args.levels)) c.args.frame c.args.name.now 1 c.args.list.now) (λ vs. first_of c.args.name.now.place vs) (at c.args.memory.now (g.W.World.log c.args.world.now)) (at c.applied.new.memory (g.W.World.log c.applied.new.world)) (at c.applied.new.memory (g.W.World.log c.applied.new.world)) c.in_ok-outputs.outputs.items v (c.in_ok-outputs.ensures.ok) ((λ all f. f), (λ ts b. b)) (w c.applied.new.memory.env c.applied.new.memory.turns c.applied.new.memory.calls (g.W.World.log c.applied.new.world))) (c.first_of.ensures.ok)
 
 pub applying::applied_once-returns-clause-err : goal.applying::applied_once-returns-clause-err
-applying::applied_once-returns-clause-err g t c = λ x e. after_halts (applied c.args.program.now (level_at c.args.program.now (below c.args.program.now c.args.levels)) c.args.frame c.args.name.now 1 c.args.list.now) (λ vs. first_of c.args.name.now.place vs) (at c.args.memory.now (g.W.World.log c.args.world.now)) (at c.applied.new.memory (g.W.World.log c.applied.new.world)) (at c.applied.new.memory (g.W.World.log c.applied.new.world)) c.in_ok-outputs.outputs.items x (c.in_ok-outputs.ensures.ok) ((λ all f. f), (λ ts b. b)) (c.first_of.ensures.err x e c.applied.new.memory.env c.applied.new.memory.turns (g.W.World.log c.applied.new.world))
+applying::applied_once-returns-clause-err g t c = λ x e. after_halts (applied c.args.program.now (level_at c.args.program.now (below c.args.program.now c.args.levels)) c.args.frame c.args.name.now 1 c.args.list.now) (λ vs. first_of c.args.name.now.place vs) (at c.args.memory.now (g.W.World.log c.args.world.now)) (at c.applied.new.memory (g.W.World.log c.applied.new.world)) (at c.applied.new.memory (g.W.World.log c.applied.new.world)) c.in_ok-outputs.outputs.items x (c.in_ok-outputs.ensures.ok) ((λ all f. f), (λ ts b. b)) (c.first_of.ensures.err x e c.applied.new.memory.env c.applied.new.memory.turns c.applied.new.memory.calls (g.W.World.log c.applied.new.world))
 
 pub applying::applied_once-returns-in_err-outputs-clause-err : goal.applying::applied_once-returns-in_err-outputs-clause-err
 applying::applied_once-returns-in_err-outputs-clause-err g t c = λ x e. rw (same_halt e c.from_residual.ensures.1) (first_halts (applied c.args.program.now (level_at c.args.program.now (below c.args.program.now c.args.levels)) c.args.frame c.args.name.now 1 c.args.list.now) (λ vs. first_of c.args.name.now.place vs) (at c.args.memory.now (g.W.World.log c.args.world.now)) (at c.applied.new.memory (g.W.World.log c.applied.new.world)) _ (c.in_err-outputs.ensures.err _ refl))
@@ -310,7 +312,7 @@ loops::repeat-loop-pass-preserved g t c = let item0 = comes_pass (passes c.args.
 
 pub loops::repeat-returns-clause-err : goal.loops::repeat-returns-clause-err
 unfolding looped
-loops::repeat-returns-clause-err g t c = λ x e. elim c.loop-pass-test.branch [ loops::repeat-else-loop-pass-test w ↦ absurd (omega (arith, w.loop-pass-test.false)) | loops::repeat-then-loop-pass-test+in_ok-test+else-not-branch+in_ok-take_turn+in_ok-block+in-Onward+else-pass-most w ↦ let item0 = comes_pass (passes c.args.program.now (level_at c.args.program.now (below c.args.program.now c.args.levels)) c.args.frame c.args.place c.args.e.now c.args.body.now) (passes c.args.program.now (level_at c.args.program.now (below c.args.program.now c.args.levels)) c.args.frame c.args.place c.args.e.now c.args.body.now (c.args.memory.now.turns + 1)) (c.args.memory.now.turns + 1) c.loop-pass._pass (at c.args.memory.now (g.W.World.log c.args.world.now)) (at c.loop-pass.memory (g.W.World.log c.loop-pass.world)) c.loop-pass.invariant.0 (omega (arith)) in let item1 = comes_after (passes c.args.program.now (level_at c.args.program.now (below c.args.program.now c.args.levels)) c.args.frame c.args.place c.args.e.now c.args.body.now (c.args.memory.now.turns + 1)) (tested c.args.program.now (value_in c.args.program.now (below c.args.program.now c.args.levels)) c.args.frame c.args.place c.args.e.now) (λ (yes : Bool). if yes then ((take_turn c.args.place) >>= (λ u. (block_in c.args.program.now (below c.args.program.now c.args.levels) c.args.frame c.args.body.now) >>= (λ x. after_pass c.args.program.now x (passes c.args.program.now (level_at c.args.program.now (below c.args.program.now c.args.levels)) c.args.frame c.args.place c.args.e.now c.args.body.now (c.args.memory.now.turns + 1 - (c.loop-pass._pass + 1)))))) else pure Onward) w.in_ok-test.field-0 (at c.args.memory.now (g.W.World.log c.args.world.now)) (at c.loop-pass.memory (g.W.World.log c.loop-pass.world)) (at w.test.new.memory (g.W.World.log w.test.new.world)) item0 (w.in_ok-test.ensures.ok) w.in_ok-test.ensures.keeps in let yes : w.in_ok-test.field-0 ≡ true = (cc) in let item2 = comes_after (passes c.args.program.now (level_at c.args.program.now (below c.args.program.now c.args.levels)) c.args.frame c.args.place c.args.e.now c.args.body.now (c.args.memory.now.turns + 1)) (take_turn c.args.place) (λ u. (block_in c.args.program.now (below c.args.program.now c.args.levels) c.args.frame c.args.body.now) >>= (λ x. after_pass c.args.program.now x (passes c.args.program.now (level_at c.args.program.now (below c.args.program.now c.args.levels)) c.args.frame c.args.place c.args.e.now c.args.body.now (c.args.memory.now.turns + 1 - (c.loop-pass._pass + 1))))) w.in_ok-take_turn.field-0 (at c.args.memory.now (g.W.World.log c.args.world.now)) (at w.test.new.memory (g.W.World.log w.test.new.world)) (at w.take_turn.new.memory (g.W.World.log w.test.new.world)) (rw yes at item1) (w.in_ok-take_turn.ensures.ok) ((λ all f. f), (λ ts b. b)) in let item3 = comes_after (passes c.args.program.now (level_at c.args.program.now (below c.args.program.now c.args.levels)) c.args.frame c.args.place c.args.e.now c.args.body.now (c.args.memory.now.turns + 1)) (block_in c.args.program.now (below c.args.program.now c.args.levels) c.args.frame c.args.body.now) (λ x. after_pass c.args.program.now x (passes c.args.program.now (level_at c.args.program.now (below c.args.program.now c.args.levels)) c.args.frame c.args.place c.args.e.now c.args.body.now (c.args.memory.now.turns + 1 - (c.loop-pass._pass + 1)))) w.in_ok-block.field-0 (at c.args.memory.now (g.W.World.log c.args.world.now)) (at w.take_turn.new.memory (g.W.World.log w.test.new.world)) (at w.block.new.memory (g.W.World.log w.block.new.world)) item2 (w.in_ok-block.ensures.ok) w.in_ok-block.ensures.keeps in let more = rw (goes_on c.args.program.now w.in_ok-block.field-0 (passes c.args.program.now (level_at c.args.program.now (below c.args.program.now c.args.levels)) c.args.frame c.args.place c.args.e.now c.args.body.now (c.args.memory.now.turns + 1 - (c.loop-pass._pass + 1))) w.in-Onward.is) at item3 in let zero : c.args.memory.now.turns + 1 - (c.loop-pass._pass + 1) ≡ 0 = omega (arith) in let spent = rw zero at more in rw (w.memory-is, w.world-is, same_err e) (comes_halts (passes c.args.program.now (level_at c.args.program.now (below c.args.program.now c.args.levels)) c.args.frame c.args.place c.args.e.now c.args.body.now (c.args.memory.now.turns + 1)) (fail Spent c.args.place) (at c.args.memory.now (g.W.World.log c.args.world.now)) (at w.block.new.memory (g.W.World.log w.block.new.world)) (at w.block.new.memory (g.W.World.log w.block.new.world)) _ spent ((λ all f. f), (λ ts b. b)) (λ k h all f. c.fail.ensures w.block.new.memory.env w.block.new.memory.turns (g.W.World.log w.block.new.world) h all)) ]
+loops::repeat-returns-clause-err g t c = λ x e. elim c.loop-pass-test.branch [ loops::repeat-else-loop-pass-test w ↦ absurd (omega (arith, w.loop-pass-test.false)) | loops::repeat-then-loop-pass-test+in_ok-test+else-not-branch+in_ok-take_turn+in_ok-block+in-Onward+else-pass-most w ↦ let item0 = comes_pass (passes c.args.program.now (level_at c.args.program.now (below c.args.program.now c.args.levels)) c.args.frame c.args.place c.args.e.now c.args.body.now) (passes c.args.program.now (level_at c.args.program.now (below c.args.program.now c.args.levels)) c.args.frame c.args.place c.args.e.now c.args.body.now (c.args.memory.now.turns + 1)) (c.args.memory.now.turns + 1) c.loop-pass._pass (at c.args.memory.now (g.W.World.log c.args.world.now)) (at c.loop-pass.memory (g.W.World.log c.loop-pass.world)) c.loop-pass.invariant.0 (omega (arith)) in let item1 = comes_after (passes c.args.program.now (level_at c.args.program.now (below c.args.program.now c.args.levels)) c.args.frame c.args.place c.args.e.now c.args.body.now (c.args.memory.now.turns + 1)) (tested c.args.program.now (value_in c.args.program.now (below c.args.program.now c.args.levels)) c.args.frame c.args.place c.args.e.now) (λ (yes : Bool). if yes then ((take_turn c.args.place) >>= (λ u. (block_in c.args.program.now (below c.args.program.now c.args.levels) c.args.frame c.args.body.now) >>= (λ x. after_pass c.args.program.now x (passes c.args.program.now (level_at c.args.program.now (below c.args.program.now c.args.levels)) c.args.frame c.args.place c.args.e.now c.args.body.now (c.args.memory.now.turns + 1 - (c.loop-pass._pass + 1)))))) else pure Onward) w.in_ok-test.field-0 (at c.args.memory.now (g.W.World.log c.args.world.now)) (at c.loop-pass.memory (g.W.World.log c.loop-pass.world)) (at w.test.new.memory (g.W.World.log w.test.new.world)) item0 (w.in_ok-test.ensures.ok) w.in_ok-test.ensures.keeps in let yes : w.in_ok-test.field-0 ≡ true = (cc) in let item2 = comes_after (passes c.args.program.now (level_at c.args.program.now (below c.args.program.now c.args.levels)) c.args.frame c.args.place c.args.e.now c.args.body.now (c.args.memory.now.turns + 1)) (take_turn c.args.place) (λ u. (block_in c.args.program.now (below c.args.program.now c.args.levels) c.args.frame c.args.body.now) >>= (λ x. after_pass c.args.program.now x (passes c.args.program.now (level_at c.args.program.now (below c.args.program.now c.args.levels)) c.args.frame c.args.place c.args.e.now c.args.body.now (c.args.memory.now.turns + 1 - (c.loop-pass._pass + 1))))) w.in_ok-take_turn.field-0 (at c.args.memory.now (g.W.World.log c.args.world.now)) (at w.test.new.memory (g.W.World.log w.test.new.world)) (at w.take_turn.new.memory (g.W.World.log w.test.new.world)) (rw yes at item1) (w.in_ok-take_turn.ensures.ok) ((λ all f. f), (λ ts b. b)) in let item3 = comes_after (passes c.args.program.now (level_at c.args.program.now (below c.args.program.now c.args.levels)) c.args.frame c.args.place c.args.e.now c.args.body.now (c.args.memory.now.turns + 1)) (block_in c.args.program.now (below c.args.program.now c.args.levels) c.args.frame c.args.body.now) (λ x. after_pass c.args.program.now x (passes c.args.program.now (level_at c.args.program.now (below c.args.program.now c.args.levels)) c.args.frame c.args.place c.args.e.now c.args.body.now (c.args.memory.now.turns + 1 - (c.loop-pass._pass + 1)))) w.in_ok-block.field-0 (at c.args.memory.now (g.W.World.log c.args.world.now)) (at w.take_turn.new.memory (g.W.World.log w.test.new.world)) (at w.block.new.memory (g.W.World.log w.block.new.world)) item2 (w.in_ok-block.ensures.ok) w.in_ok-block.ensures.keeps in let more = rw (goes_on c.args.program.now w.in_ok-block.field-0 (passes c.args.program.now (level_at c.args.program.now (below c.args.program.now c.args.levels)) c.args.frame c.args.place c.args.e.now c.args.body.now (c.args.memory.now.turns + 1 - (c.loop-pass._pass + 1))) w.in-Onward.is) at item3 in let zero : c.args.memory.now.turns + 1 - (c.loop-pass._pass + 1) ≡ 0 = omega (arith) in let spent = rw zero at more in rw (w.memory-is, w.world-is, same_err e) (comes_halts (passes c.args.program.now (level_at c.args.program.now (below c.args.program.now c.args.levels)) c.args.frame c.args.place c.args.e.now c.args.body.now (c.args.memory.now.turns + 1)) (fail Spent c.args.place) (at c.args.memory.now (g.W.World.log c.args.world.now)) (at w.block.new.memory (g.W.World.log w.block.new.world)) (at w.block.new.memory (g.W.World.log w.block.new.world)) _ spent ((λ all f. f), (λ ts b. b)) (λ k h all f. c.fail.ensures w.block.new.memory.env w.block.new.memory.turns w.block.new.memory.calls (g.W.World.log w.block.new.world) h all)) ]
 
 pub outputs::outputs-returns-in-None-clause-ok : goal.outputs::outputs-returns-in-None-clause-ok
 unfolding outputs_in
@@ -356,3 +358,39 @@ statements::statement-returns-in-If-clause-ok g t c = rw (stmt_nested c.args.pro
 
 pub statements::statement-returns-in-If-clause-err : goal.statements::statement-returns-in-If-clause-err
 statements::statement-returns-in-If-clause-err g t c = rw (stmt_nested c.args.program.now (below c.args.program.now c.args.levels) c.args.frame c.args.s.now c.in-If.is) (c.nested.ensures.err)
+
+pub operators::unary-returns-clause-ok : goal.operators::unary-returns-clause-ok
+unfolding unary
+operators::unary-returns-clause-ok g t c = ok_more c.operate_on_one.result _ _ (λ v w. after_went (value_in c.args.program.now (below c.args.program.now c.args.levels) c.args.frame c.args.a.now) (λ x. operator c.args.program.now c.args.frame.client c.args.place (unary_sign c.args.op) (x ∷ []) (unary_of c.args.program.now.mode c.args.op x)) (at c.args.memory.now (g.W.World.log c.args.world.now)) (at c.value.new.memory (g.W.World.log c.value.new.world)) (at c.operate_on_one.new.memory (g.W.World.log c.operate_on_one.new.world)) c.in_ok-x.x v (c.in_ok-x.ensures.ok) (c.operate_on_one.ensures.keeps) w) (c.operate_on_one.ensures.ok)
+
+pub operators::unary-returns-clause-err : goal.operators::unary-returns-clause-err
+unfolding unary
+operators::unary-returns-clause-err g t c = λ x e. after_halts (value_in c.args.program.now (below c.args.program.now c.args.levels) c.args.frame c.args.a.now) (λ x. operator c.args.program.now c.args.frame.client c.args.place (unary_sign c.args.op) (x ∷ []) (unary_of c.args.program.now.mode c.args.op x)) (at c.args.memory.now (g.W.World.log c.args.world.now)) (at c.value.new.memory (g.W.World.log c.value.new.world)) (at c.operate_on_one.new.memory (g.W.World.log c.operate_on_one.new.world)) c.in_ok-x.x x (c.in_ok-x.ensures.ok) (c.operate_on_one.ensures.keeps) (c.operate_on_one.ensures.err x e)
+
+pub calling::call_name-returns-in-None-clause-ok : goal.calling::call_name-returns-in-None-clause-ok
+unfolding call_name
+calling::call_name-returns-in-None-clause-ok g t c = rw (sym c.function_of.ensures ∙ c.in-None.is) (c.call_named.ensures.ok)
+
+pub calling::call_name-returns-in-None-clause-err : goal.calling::call_name-returns-in-None-clause-err
+unfolding call_name
+calling::call_name-returns-in-None-clause-err g t c = rw (sym c.function_of.ensures ∙ c.in-None.is) (c.call_named.ensures.err)
+
+pub calling::call_named-returns-in-Some-clause-ok : goal.calling::call_named-returns-in-Some-clause-ok
+calling::call_named-returns-in-Some-clause-ok g t c = rw (sym c.call_door.ensures ∙ c.in-Some.is) (c.extra.ensures.ok)
+
+pub calling::call_named-returns-in-Some-clause-err : goal.calling::call_named-returns-in-Some-clause-err
+calling::call_named-returns-in-Some-clause-err g t c = rw (sym c.call_door.ensures ∙ c.in-Some.is) (c.extra.ensures.err)
+
+pub calling::call_named-returns-in-None-clause-ok : goal.calling::call_named-returns-in-None-clause-ok
+calling::call_named-returns-in-None-clause-ok g t c = rw (sym c.call_door.ensures ∙ c.in-None.is) (rw c.known_named-known.ensures at (c.call_known.ensures.ok))
+
+pub calling::call_named-returns-in-None-clause-err : goal.calling::call_named-returns-in-None-clause-err
+calling::call_named-returns-in-None-clause-err g t c = rw (sym c.call_door.ensures ∙ c.in-None.is) (rw c.known_named-known.ensures at (c.call_known.ensures.err))
+
+pub operators::binary-returns-clause-ok : goal.operators::binary-returns-clause-ok
+unfolding binary
+operators::binary-returns-clause-ok g t c = ok_more c.operate_on_two.result _ _ (λ v w. after_went (value_in c.args.program.now (below c.args.program.now c.args.levels) c.args.frame c.args.a.now) (λ x. (value_in c.args.program.now (below c.args.program.now c.args.levels) c.args.frame c.args.b.now) >>= (λ y. operator c.args.program.now c.args.frame.client c.args.place (binary_sign c.args.op) (x ∷ y ∷ []) (binary_of c.args.program.now.mode c.args.op x y))) (at c.args.memory.now (g.W.World.log c.args.world.now)) (at c.value.new.memory (g.W.World.log c.value.new.world)) (at c.operate_on_two.new.memory (g.W.World.log c.operate_on_two.new.world)) c.in_ok-x.x v (c.in_ok-x.ensures.ok) (keeps_on (at c.value.new.memory (g.W.World.log c.value.new.world)) (at c.value-2.new.memory (g.W.World.log c.value-2.new.world)) (at c.operate_on_two.new.memory (g.W.World.log c.operate_on_two.new.world)) (c.value-2.ensures.keeps) (c.operate_on_two.ensures.keeps)) (after_went (value_in c.args.program.now (below c.args.program.now c.args.levels) c.args.frame c.args.b.now) (λ y. operator c.args.program.now c.args.frame.client c.args.place (binary_sign c.args.op) (c.in_ok-x.x ∷ y ∷ []) (binary_of c.args.program.now.mode c.args.op c.in_ok-x.x y)) (at c.value.new.memory (g.W.World.log c.value.new.world)) (at c.value-2.new.memory (g.W.World.log c.value-2.new.world)) (at c.operate_on_two.new.memory (g.W.World.log c.operate_on_two.new.world)) c.in_ok-y.y v (c.in_ok-y.ensures.ok) (c.operate_on_two.ensures.keeps) w)) (c.operate_on_two.ensures.ok)
+
+pub operators::binary-returns-clause-err : goal.operators::binary-returns-clause-err
+unfolding binary
+operators::binary-returns-clause-err g t c = λ x e. after_halts (value_in c.args.program.now (below c.args.program.now c.args.levels) c.args.frame c.args.a.now) (λ x. (value_in c.args.program.now (below c.args.program.now c.args.levels) c.args.frame c.args.b.now) >>= (λ y. operator c.args.program.now c.args.frame.client c.args.place (binary_sign c.args.op) (x ∷ y ∷ []) (binary_of c.args.program.now.mode c.args.op x y))) (at c.args.memory.now (g.W.World.log c.args.world.now)) (at c.value.new.memory (g.W.World.log c.value.new.world)) (at c.operate_on_two.new.memory (g.W.World.log c.operate_on_two.new.world)) c.in_ok-x.x x (c.in_ok-x.ensures.ok) (keeps_on (at c.value.new.memory (g.W.World.log c.value.new.world)) (at c.value-2.new.memory (g.W.World.log c.value-2.new.world)) (at c.operate_on_two.new.memory (g.W.World.log c.operate_on_two.new.world)) (c.value-2.ensures.keeps) (c.operate_on_two.ensures.keeps)) (after_halts (value_in c.args.program.now (below c.args.program.now c.args.levels) c.args.frame c.args.b.now) (λ y. operator c.args.program.now c.args.frame.client c.args.place (binary_sign c.args.op) (c.in_ok-x.x ∷ y ∷ []) (binary_of c.args.program.now.mode c.args.op c.in_ok-x.x y)) (at c.value.new.memory (g.W.World.log c.value.new.world)) (at c.value-2.new.memory (g.W.World.log c.value-2.new.world)) (at c.operate_on_two.new.memory (g.W.World.log c.operate_on_two.new.world)) c.in_ok-y.y x (c.in_ok-y.ensures.ok) (c.operate_on_two.ensures.keeps) (c.operate_on_two.ensures.err x e))

@@ -12,7 +12,7 @@ abbrev pub decreases-expressions::nested : goal.decreases-expressions::nested
 decreases-expressions::nested g l = 32 * l.levels + 0
 
 abbrev pub decreases-expressions::compound : goal.decreases-expressions::compound
-decreases-expressions::compound g l = 32 * l.levels + 12
+decreases-expressions::compound g l = 32 * l.levels + 13
 
 abbrev pub decreases-expressions::variable : goal.decreases-expressions::variable
 decreases-expressions::variable g l = 32 * l.levels + 2
@@ -21,10 +21,10 @@ abbrev pub decreases-expressions::called_alone : goal.decreases-expressions::cal
 decreases-expressions::called_alone g l = 32 * l.levels + 1
 
 abbrev pub decreases-applying::application : goal.decreases-applying::application
-decreases-applying::application g l = 32 * l.levels + 11
+decreases-applying::application g l = 32 * l.levels + 12
 
 abbrev pub decreases-applying::applied_once : goal.decreases-applying::applied_once
-decreases-applying::applied_once g l = 32 * l.levels + 10
+decreases-applying::applied_once g l = 32 * l.levels + 11
 
 abbrev pub decreases-applying::indexed : goal.decreases-applying::indexed
 decreases-applying::indexed g l = 32 * l.levels + 6
@@ -81,10 +81,13 @@ abbrev pub decreases-calling::called : goal.decreases-calling::called
 decreases-calling::called g l = 32 * l.levels + 0
 
 abbrev pub decreases-calling::applied : goal.decreases-calling::applied
-decreases-calling::applied g l = 32 * l.levels + 9
+decreases-calling::applied g l = 32 * l.levels + 10
 
 abbrev pub decreases-calling::call_name : goal.decreases-calling::call_name
-decreases-calling::call_name g l = 32 * l.levels + 8
+decreases-calling::call_name g l = 32 * l.levels + 9
+
+abbrev pub decreases-calling::call_named : goal.decreases-calling::call_named
+decreases-calling::call_named g l = 32 * l.levels + 8
 
 abbrev pub decreases-calling::call_known : goal.decreases-calling::call_known
 decreases-calling::call_known g l = 32 * l.levels + 7
