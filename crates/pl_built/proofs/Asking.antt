@@ -1,9 +1,8 @@
--- A run asks only of loops of the form, and from workspaces as long as their scopes: how parts that do so are put together,
--- and those that no statement stands in.
+-- A run asks only of loops of the form, from workspaces as long as their scopes, and of extras of its program's table: how parts
+-- that do so are put together, and those that no statement stands in.
 use Rattle.std.specs.Prelude.{◌≡◌, nat_lt, length, if◌then◌else◌, slice_set}
-use Rattle.std.proofs.Common.{◌∙◌, refl, ap, ℕ, zero, suc, List, [], ◌∷◌, Bool, true, false, Option, Some, None, Result, Ok, Err, subst}
+use Rattle.std.proofs.Common.{◌∙◌, refl, ap, ℕ, zero, suc, List, [], Bool, true, false, Option, Some, None, Result, Ok, Err, subst}
 use Rattle.std.proofs.lemmas.List.{length-set}
-use Rattle.pl_base.specs.declared.choice.Choice.{Choice}
 use Rattle.pl_base.specs.declared.errors.ErrKind.{ErrKind}
 use Rattle.pl_base.specs.declared.errors.Place.{Place}
 use Rattle.pl_base.specs.declared.errors.ScriptError.{ScriptError}
@@ -24,29 +23,35 @@ use Rattle.pl_meaning.specs.declared.known.Known.TheVariants as known
 use Rattle.pl_meaning.specs.declared.known.Own.{Own}
 use Rattle.pl_meaning.specs.declared.known.Own.TheVariants.{Disp, Fprintf, Sprintf, Error, NumToStr, MatToStr, Feval}
 use Rattle.pl_meaning.specs.Accesses.{settle, read_of, read, check_of, check, selected_of, read_part, end_of, read_end, write, put, write_part, erased_of, erase_part, turn_of, take_turn}
-use Rattle.pl_meaning.specs.Forms.{is_among, is_form}
+use Rattle.pl_meaning.specs.Forms.{is_among}
 use Rattle.pl_meaning.specs.Library.{offering, printed, own_of, library}
-use Rattle.pl_meaning.specs.Logs.{shows, Workspace, Question}
+use Rattle.pl_meaning.specs.Logs.{shows, Workspace, LoopQuestion, Asked, OfLoop, OfExtra, Reply, keeping}
 use Rattle.pl_meaning.specs.Loops.{body_frame}
 use Rattle.pl_meaning.specs.Names.{names_in, slot_of}
 use Rattle.pl_meaning.specs.Parts.{written_in}
-use Rattle.pl_built.specs.Built.{built_rules}
-use Rattle.pl_meaning.specs.Running.{before, State, Outcome, Asks, Rest, Running, pure, raise, ◌>>=◌, is_fatal, attempt, inside, tell, waits, answered_by, answer_of, ask}
+use Rattle.pl_built.specs.Built.{is_built_question, built_rules}
+use Rattle.pl_meaning.specs.Running.{before, State, Outcome, Asks, Rest, Running, pure, raise, ◌>>=◌, is_fatal, attempt, inside, tell, waits, answered_by, ask}
 
-asks_same : (q r : Question) (u v : Workspace) → Asks q u ≡ Asks r v → q ≡ r
+asks_same : (q r : Asked) (u v : Workspace) → Asks q u ≡ Asks r v → q ≡ r
 asks_same q r u v e = cc
 
-asks_there : (q r : Question) (u v : Workspace) → Asks q u ≡ Asks r v → u ≡ v
+asks_there : (q r : Asked) (u v : Workspace) → Asks q u ≡ Asks r v → u ≡ v
 asks_there q r u v e = cc
+
+loop_same : (q r : LoopQuestion) (u v : Workspace) → Asks (OfLoop q) u ≡ Asks (OfLoop r) v → q ≡ r
+loop_same q r u v e = cc
+
+no_loop : (number : ℕ) (vs : List Value) (nout : ℕ) (r : LoopQuestion) (u v : Workspace) → Asks (OfExtra number vs nout) u ≡ Asks (OfLoop r) v → ⊥
+no_loop number vs nout r u v e = cc
 
 -- where a slot has a value, it has an array
 abbrev pub IsLaid : Workspace → ℕ → Type 0
 IsLaid env slot = (v : Value) → value_at env slot ≡ Some v → (a : Array) × (v ≡ value.Array a)
 
 module _ (program : Resolved) where
-  -- a question of a loop of the form
-  abbrev pub IsOfForm : Question → Type 0
-  IsOfForm q = is_form program (body_frame q) q.index q.body ≡ true
+  -- a question of a loop of the form, or of an extra of the table
+  abbrev pub IsBuiltQuestion : Asked → Type 0
+  IsBuiltQuestion q = is_built_question program q ≡ true
 
   -- how many variables a scope has
   abbrev pub width : ℕ → ℕ
@@ -57,7 +62,7 @@ module _ (program : Resolved) where
   IsLong wide n env = wide ≡ true → length env ≡ n
 
   -- that holds of each variable that the loop's body writes
-  abbrev pub AreLaid : Question → Workspace → Type 0
+  abbrev pub AreLaid : LoopQuestion → Workspace → Type 0
   AreLaid q env = (n : Name) (slot : ℕ) → is_among (written_in q.body) n ≡ true → slot_of program (body_frame q) n.text ≡ Some slot → IsLaid env slot
 
   -- from here by rules that answer no other question
@@ -66,9 +71,9 @@ module _ (program : Resolved) where
 
   -- what stops at no other question, and from no other workspace, and is the same by those rules
   pub record Fine (wide : Bool) (o other : Outcome) : Type 0 where
-    pub asks : (q : Question) (env : Workspace) → o.ending ≡ Asks q env → IsOfForm q
-    pub long : (q : Question) (env : Workspace) → o.ending ≡ Asks q env → IsLong wide (width q.scope) env
-    pub laid : (q : Question) (env : Workspace) → o.ending ≡ Asks q env → AreLaid q env
+    pub asks : (q : Asked) (env : Workspace) → o.ending ≡ Asks q env → IsBuiltQuestion q
+    pub long : (q : LoopQuestion) (env : Workspace) → o.ending ≡ Asks (OfLoop q) env → IsLong wide (width q.scope) env
+    pub laid : (q : LoopQuestion) (env : Workspace) → o.ending ≡ Asks (OfLoop q) env → AreLaid q env
     pub same : o ≡ other
 
   abbrev pub Onwards : {A : Type 0} → Bool → ℕ → (A → Rest) → (A → Rest) → Type 0
@@ -137,37 +142,50 @@ module _ (program : Resolved) where
   where_at all G = record { fine = λ wide k k' h h' K H s w. G.fine wide k k' h h' K H s w (all s.env) }
 
   -- a question of a loop of the form, in a workspace of its scope in which the variables that its body writes have arrays
-  waits_where : (q : Question) → IsOfForm q → GoodWhere (AreLaid q) (width q.scope) (waits {A = Answer} q)
+  waits_where : (q : LoopQuestion) → IsBuiltQuestion (OfLoop q) → GoodWhere (AreLaid q) (width q.scope) (waits {A = Answer} (OfLoop q))
   waits_where q form = record {
     fine = λ wide k k' h h' K H s w has. record {
-      asks = λ r env e. subst IsOfForm (asks_same q r s.env env e) form;
-      long = λ r env e. subst (λ v. IsLong wide (width r.scope) v) (asks_there q r s.env env e) (subst (λ r. IsLong wide (width r.scope) s.env) (asks_same q r s.env env e) w);
-      laid = λ r env e. subst (λ v. AreLaid r v) (asks_there q r s.env env e) (subst (λ r. AreLaid r s.env) (asks_same q r s.env env e) has);
+      asks = λ r env e. subst IsBuiltQuestion (asks_same (OfLoop q) r s.env env e) form;
+      long = λ r env e. subst (λ v. IsLong wide (width r.scope) v) (asks_there (OfLoop q) (OfLoop r) s.env env e) (subst (λ r. IsLong wide (width r.scope) s.env) (loop_same q r s.env env e) w);
+      laid = λ r env e. subst (λ v. AreLaid r v) (asks_there (OfLoop q) (OfLoop r) s.env env e) (subst (λ r. AreLaid r s.env) (loop_same q r s.env env e) has);
       same = refl;
     };
   }
 
-  answered_by_where : (q : Question) (more : List Choice) → IsOfForm q → (o : Option Answer) → GoodWhere (AreLaid q) (width q.scope) (answered_by q more o)
-  answered_by_where q more form None = waits_where q form
-  answered_by_where q more form (Some a) = record { fine = λ wide k k' h h' K H s w has. K a (record s { choices = more }) w }
-
-  -- which those rules answer, too
-  chosen : (b : Bool) (a : Option Answer) → b ≡ true → a ≡ (if b then a else None)
-  chosen true a e = refl
-  chosen false a e = absurd (cc)
-
-  answer_of_where : (q : Question) → IsOfForm q → (choices : List Choice) → GoodWhere (AreLaid q) (width q.scope) (answer_of q choices)
-  answer_of_where q form [] = waits_where q form
-  answer_of_where q form (c ∷ more) = record {
-    fine = λ wide k k' h h' K H s w has.
-        subst (λ o. Fine wide (answered_by q more (s.rules q s.env c) k h s) (answered_by q more o k' h' (strict s)))
-        (chosen (is_form program (body_frame q) q.index q.body) (s.rules q s.env c) form)
-        ((answered_by_where q more form (s.rules q s.env c)).fine wide k k' h h' K H s w has);
+  -- a question of an extra of the table, in any workspace
+  waits_extra : (n number : ℕ) (vs : List Value) (nout : ℕ) → IsBuiltQuestion (OfExtra number vs nout) → GoodWhere (λ env. Unit {0}) n (waits {A = Answer} (OfExtra number vs nout))
+  waits_extra n number vs nout within = record {
+    fine = λ wide k k' h h' K H s w has. record {
+      asks = λ r env e. subst IsBuiltQuestion (asks_same (OfExtra number vs nout) r s.env env e) within;
+      long = λ r env e. absurd (no_loop number vs nout r s.env env e);
+      laid = λ r env e. absurd (no_loop number vs nout r s.env env e);
+      same = refl;
+    };
   }
 
-  pub ask_where : (q : Question) → IsOfForm q → GoodWhere (AreLaid q) (width q.scope) (ask q)
+  answered_by_where : {P : Workspace → Type 0} {n : ℕ} (q : Asked) → GoodWhere P n (waits {A = Answer} q) → (o : Option Reply) → GoodWhere P n (answered_by q o)
+  answered_by_where q W None = W
+  answered_by_where q W (Some r) = record { fine = λ wide k k' h h' K H s w has. K r.answer (record s { choices = r.left; rules = keeping s.rules r.kept }) w }
+
+  -- which those rules answer, too
+  chosen : (b : Bool) (o : Option Reply) → b ≡ true → o ≡ (if b then o else None)
+  chosen true o e = refl
+  chosen false o e = absurd (cc)
+
+  asked_where : {P : Workspace → Type 0} {n : ℕ} (q : Asked) → IsBuiltQuestion q → GoodWhere P n (waits {A = Answer} q) → GoodWhere P n (ask q)
   unfolding ask
-  ask_where q form = record { fine = λ wide k k' h h' K H s w has. (answer_of_where q form s.choices).fine wide k k' h h' K H s w has }
+  asked_where q built W = record {
+    fine = λ wide k k' h h' K H s w has.
+        subst (λ o. Fine wide (answered_by q (s.rules.reply s.rules.kept q s.env s.choices) k h s) (answered_by q o k' h' (strict s)))
+        (chosen (is_built_question program q) (s.rules.reply s.rules.kept q s.env s.choices) built)
+        ((answered_by_where q W (s.rules.reply s.rules.kept q s.env s.choices)).fine wide k k' h h' K H s w has);
+  }
+
+  pub ask_where : (q : LoopQuestion) → IsBuiltQuestion (OfLoop q) → GoodWhere (AreLaid q) (width q.scope) (ask (OfLoop q))
+  ask_where q form = asked_where (OfLoop q) form (waits_where q form)
+
+  pub ask_extra_good : (number : ℕ) (vs : List Value) (nout : ℕ) → IsBuiltQuestion (OfExtra number vs nout) → Good (ask (OfExtra number vs nout))
+  ask_extra_good number vs nout within = record { at = λ n. where_at (λ env. tt) (asked_where (OfExtra number vs nout) within (waits_extra n number vs nout within)) }
 
   -- ## Accesses
 

@@ -1,8 +1,7 @@
--- An expression stops at no question but one of a loop of the form, if the parts below it don't.
+-- An expression stops at no question but those of a built program, if the parts below it don't.
 use Rattle.std.specs.Prelude.{◌≡◌, nat_lt, drop}
 use Rattle.std.proofs.Common.{ℕ, ◌++◌, List, [], ◌∷◌, length, Bool, true, false, Option, Some, None}
 use Rattle.pl_base.specs.declared.errors.Place.{Place}
-use Rattle.pl_base.specs.declared.mode.Mode.{Mode}
 use Rattle.pl_syntax.specs.declared.expr.Bin.{Bin}
 use Rattle.pl_syntax.specs.declared.expr.Bin.TheVariants.{AndAlso, OrElse}
 use Rattle.pl_syntax.specs.declared.expr.Expr.{Expr, out-Expr}
@@ -10,11 +9,13 @@ use Rattle.pl_syntax.specs.declared.expr.ExprKind.{ExprKind, out-ExprKind}
 use Rattle.pl_syntax.specs.declared.expr.ExprKind.TheOpen.{ExprKind-F}
 use Rattle.pl_syntax.specs.declared.expr.Name.{Name}
 use Rattle.pl_syntax.specs.declared.expr.Un.{Un}
+use Rattle.pl_syntax.specs.Signs.{unary_sign, binary_sign}
 use Rattle.pl_syntax.specs.declared.stmt.Stmt.{Stmt}
 use Rattle.pl_values.specs.declared.value.Value.{Value, out-Value}
 use Rattle.pl_values.specs.declared.value.Value.TheOpen.{Value-F}
 use Rattle.pl_operators.specs.declared.argument.Argument.{Argument}
 use Rattle.pl_operators.specs.declared.argument.Argument.TheVariants.{Colon, Given}
+use Rattle.pl_operators.specs.Operating.{unary_of, binary_of}
 use Rattle.pl_resolve.specs.declared.resolved.Resolved.{Resolved}
 use Rattle.pl_resolve.specs.Functions.{local_names, number_of as number_of_name}
 use Rattle.pl_meaning.specs.declared.frame.Ends.{Ends}
@@ -23,9 +24,10 @@ use Rattle.pl_meaning.specs.declared.known.Known.{Known}
 use Rattle.pl_meaning.specs.Known.{known_of, is_feval}
 use Rattle.pl_meaning.specs.Names.{slot_of, function_of, callee_of, arguments_of}
 use Rattle.pl_meaning.specs.Running.{Running}
-use Rattle.pl_meaning.specs.Parts.{Level, Values, enter, argument_at, argument_of, within, places_from, places, given_of, values_from, values, elements_from, elements, rows_from, rows, unary, binary, switch, second, both, other, either, operated, step_of, range, bracket, indexed, end_word, first_of, handed_value, handed, by_known, by_table, locals, numbered, fed, dispatched, call_name, applied, called, handle_of, variable_or_call, index_or_call, compound_of, compound, value_of, value_in, outputs_by, outputs_in, listed_by, listed_in}
+use Rattle.pl_meaning.specs.Parts.{Level, Values, enter, argument_at, argument_of, within, places_from, places, given_of, values_from, values, elements_from, elements, rows_from, rows, unary, binary, switch, second, both, other, either, operated, step_of, range, bracket, indexed, end_word, handed_value, handed, by_known, by_table, locals, numbered, fed, known_call, dispatched, call_name, applied, called, handle_of, variable_or_call, index_or_call, compound_of, compound, value_of, value_in, outputs_by, outputs_in, listed_by, listed_in}
 use Rattle.pl_unbuilt.specs.Nodes.{of_block, frame_of}
-use Rattle.pl_built.proofs.Asking.{width, GoodAt, Good, pure_good, raise_good, bind_good, choice_good, settle_good, read_good, check_good, read_part_good, read_end_good, library_good}
+use Rattle.pl_built.proofs.Asking.{width, GoodAt, Good, pure_good, raise_good, bind_good, choice_good, settle_good, read_good, check_good, read_end_good, library_good}
+use Rattle.pl_built.proofs.Doors.{first_good, operator_good, function_good, picked_good}
 
 module _ (program : Resolved) where
   abbrev IsGood : {A : Type 0} → Running A → Type 0
@@ -39,7 +41,7 @@ module _ (program : Resolved) where
   pub record GoodLevel (d : Level) : Type 0 where
     pub value : (f : Frame) (e : Expr) → Good program (d.value f e)
     pub outputs : (f : Frame) (nout : ℕ) (e : Expr) → Good program (d.outputs f nout e)
-    pub call : (place : Place) (i nout : ℕ) (vs : List Value) → Good program (d.call place i nout vs)
+    pub call : (client : Bool) (place : Place) (i nout : ℕ) (vs : List Value) → Good program (d.call client place i nout vs)
     pub block : (f : Frame) (body : List Stmt) → IsCalm f.scope body → GoodAt program (width program f.scope) (d.block f body)
     pub ends : (f : Frame) (e : Expr) → Good program (d.ends f e)
 
@@ -105,13 +107,13 @@ module _ (program : Resolved) where
 
   -- ## Operators
 
-  unary_good : (value : Values) → AllGood value → (mode : Mode) (f : Frame) (place : Place) (op : Un) (a : Expr) → IsGood (unary mode value f place op a)
+  unary_good : (value : Values) → AllGood value → (f : Frame) (place : Place) (op : Un) (a : Expr) → IsGood (unary program value f place op a)
   unfolding unary
-  unary_good value V mode f place op a = bind_good program _ (V f a) (λ x. settle_good program place _)
+  unary_good value V f place op a = bind_good program _ (V f a) (λ x. operator_good program f.client place (unary_sign op) (x ∷ []) (unary_of program.mode op x))
 
-  binary_good : (value : Values) → AllGood value → (mode : Mode) (f : Frame) (place : Place) (op : Bin) (a b : Expr) → IsGood (binary mode value f place op a b)
+  binary_good : (value : Values) → AllGood value → (f : Frame) (place : Place) (op : Bin) (a b : Expr) → IsGood (binary program value f place op a b)
   unfolding binary
-  binary_good value V mode f place op a b = bind_good program _ (V f a) (λ x. bind_good program _ (V f b) (λ y. settle_good program place _))
+  binary_good value V f place op a b = bind_good program _ (V f a) (λ x. bind_good program _ (V f b) (λ y. operator_good program f.client place (binary_sign op) (x ∷ y ∷ []) (binary_of program.mode op x y)))
 
   switch_good : (value : Values) → AllGood value → (f : Frame) (place : Place) (a : Expr) → IsGood (switch value f place a)
   unfolding switch
@@ -133,10 +135,10 @@ module _ (program : Resolved) where
   unfolding either
   either_good value V f place a b = bind_good program _ (switch_good value V f place a) (other_good value V f place b)
 
-  operated_good : (value : Values) → AllGood value → (mode : Mode) (f : Frame) (place : Place) (op : Bin) (a b : Expr) → IsGood (operated mode value f place op a b)
-  operated_good value V mode f place AndAlso a b = both_good value V f place a b
-  operated_good value V mode f place OrElse a b = either_good value V f place a b
-  operated_good value V mode f place op a b = binary_good value V mode f place op a b
+  operated_good : (value : Values) → AllGood value → (f : Frame) (place : Place) (op : Bin) (a b : Expr) → IsGood (operated program value f place op a b)
+  operated_good value V f place AndAlso a b = both_good value V f place a b
+  operated_good value V f place OrElse a b = either_good value V f place a b
+  operated_good value V f place op a b = binary_good value V f place op a b
 
   step_good : (value : Values) → AllGood value → (f : Frame) (s : Option Expr) → IsGood (step_of value f s)
   step_good value V f None = pure_good program None
@@ -150,17 +152,13 @@ module _ (program : Resolved) where
   unfolding bracket
   bracket_good value V f place ess = bind_good program _ (rows_good value V f ess) (λ vss. settle_good program place _)
 
-  indexed_good : (value : Values) → AllGood value → (f : Frame) (n : Name) (slot : ℕ) (es : List Expr) → IsGood (indexed value f n slot es)
+  indexed_good : (value : Values) → AllGood value → (f : Frame) (n : Name) (slot : ℕ) (es : List Expr) → IsGood (indexed program value f n slot es)
   unfolding indexed
-  indexed_good value V f n slot es = bind_good program _ (check_good program slot n.place) (λ u. bind_good program _ (places_good value V f slot es) (λ list. read_part_good program slot n.place list))
+  indexed_good value V f n slot es = bind_good program _ (check_good program slot n.place) (λ u. bind_good program _ (places_good value V f slot es) (λ list. picked_good program f.client slot n.place list))
 
   end_good : (ends : Option Ends) (place : Place) → IsGood (end_word ends place)
   end_good None place = raise_good program _
   end_good (Some ends) place = bind_good program _ (read_end_good program ends place) (λ extent. pure_good program _)
-
-  first_good : (place : Place) (vs : List Value) → IsGood (first_of place vs)
-  first_good place [] = raise_good program _
-  first_good place (v ∷ more) = pure_good program v
 
   -- ## Calls
 
@@ -176,29 +174,32 @@ module _ (program : Resolved) where
   by_known_good place nout vs None = raise_good program _
   by_known_good place nout vs (Some f) = library_good program program.mode place f nout vs
 
-  by_table_good : (place : Place) (nout : ℕ) (vs : List Value) (name : Option (List ℕ)) → IsGood (by_table program place nout vs name)
-  by_table_good place nout vs None = raise_good program _
-  by_table_good place nout vs (Some name) = by_known_good place nout vs (known_of name)
+  by_table_good : (client : Bool) (place : Place) (nout : ℕ) (vs : List Value) (name : Option (List ℕ)) → IsGood (by_table program client place nout vs name)
+  by_table_good client place nout vs None = raise_good program _
+  by_table_good client place nout vs (Some name) = function_good program client place name nout vs _ (by_known_good place nout vs (known_of name))
 
-  numbered_good : (d : Level) → GoodLevel d → (place : Place) (i nout : ℕ) (vs : List Value) → IsGood (numbered program d place i nout vs)
+  numbered_good : (d : Level) → GoodLevel d → (client : Bool) (place : Place) (i nout : ℕ) (vs : List Value) → IsGood (numbered program d client place i nout vs)
   unfolding numbered
-  numbered_good d D place i nout vs = choice_good program (nat_lt i (locals program)) _ _ (D.call place i nout vs) (by_table_good place nout vs _)
+  numbered_good d D client place i nout vs = choice_good program (nat_lt i (locals program)) _ _ (D.call client place i nout vs) (by_table_good client place nout vs _)
 
-  fed_good : (d : Level) → GoodLevel d → (place : Place) (nout : ℕ) (vs : List Value) → IsGood (fed program d place nout vs)
+  fed_good : (d : Level) → GoodLevel d → (client : Bool) (place : Place) (nout : ℕ) (vs : List Value) → IsGood (fed program d client place nout vs)
   unfolding fed
-  fed_good d D place nout vs = bind_good program _ (handed_good place vs) (λ i. numbered_good d D place i nout (drop 1 vs))
+  fed_good d D client place nout vs = bind_good program _ (handed_good place vs) (λ i. numbered_good d D client place i nout (drop 1 vs))
 
-  dispatched_good : (d : Level) → GoodLevel d → (place : Place) (nout : ℕ) (vs : List Value) (o : Option ℕ) (f : Option Known) → IsGood (dispatched program d place nout vs o f)
-  dispatched_good d D place nout vs (Some i) f = D.call place i nout vs
-  dispatched_good d D place nout vs None (Some f) = choice_good program (is_feval f) _ _ (fed_good d D place nout vs) (library_good program program.mode place f nout vs)
-  dispatched_good d D place nout vs None None = raise_good program _
+  known_good : (d : Level) → GoodLevel d → (client : Bool) (place : Place) (nout : ℕ) (vs : List Value) (f : Option Known) → IsGood (known_call program d client place nout vs f)
+  known_good d D client place nout vs None = raise_good program _
+  known_good d D client place nout vs (Some f) = choice_good program (is_feval f) _ _ (fed_good d D client place nout vs) (library_good program program.mode place f nout vs)
 
-  call_name_good : (d : Level) → GoodLevel d → (n : Name) (nout : ℕ) (vs : List Value) → IsGood (call_name program d n nout vs)
+  dispatched_good : (d : Level) → GoodLevel d → (client : Bool) (n : Name) (nout : ℕ) (vs : List Value) (o : Option ℕ) (f : Option Known) → IsGood (dispatched program d client n nout vs o f)
+  dispatched_good d D client n nout vs (Some i) f = D.call client n.place i nout vs
+  dispatched_good d D client n nout vs None f = function_good program client n.place n.text nout vs _ (known_good d D client n.place nout vs f)
+
+  call_name_good : (d : Level) → GoodLevel d → (client : Bool) (n : Name) (nout : ℕ) (vs : List Value) → IsGood (call_name program d client n nout vs)
   unfolding call_name
-  call_name_good d D n nout vs = dispatched_good d D n.place nout vs (function_of program n.text) (known_of n.text)
+  call_name_good d D client n nout vs = dispatched_good d D client n nout vs (function_of program n.text) (known_of n.text)
 
   applied_good : (d : Level) → GoodLevel d → (f : Frame) (n : Name) (nout : ℕ) (es : List Expr) → IsGood (applied program d f n nout es)
-  applied_good d D f n nout es = bind_good program _ (values_good d.value D.value f n.place es) (λ vs. call_name_good d D n nout vs)
+  applied_good d D f n nout es = bind_good program _ (values_good d.value D.value f n.place es) (λ vs. call_name_good d D f.client n nout vs)
 
   called_good : (l : Option Level) → GoodBelow l → (f : Frame) (place : Place) (n : Name) (nout : ℕ) (es : List Expr) → IsGood (called program l f place n nout es)
   unfolding called
@@ -212,19 +213,19 @@ module _ (program : Resolved) where
 
   variable_good : (l : Option Level) → GoodBelow l → (f : Frame) (place : Place) (n : Name) (o : Option ℕ) → IsGood (variable_or_call program l f place n o)
   variable_good l L f place n (Some slot) = read_good program slot n.place
-  variable_good l L f place n None = bind_good program _ (called_good l L f place n 1 []) (λ vs. first_good n.place vs)
+  variable_good l L f place n None = bind_good program _ (called_good l L f place n 1 []) (λ vs. first_good program n.place vs)
 
   index_good : (d : Level) → GoodLevel d → (f : Frame) (n : Name) (es : List Expr) (o : Option ℕ) → IsGood (index_or_call program d f n es o)
   index_good d D f n es (Some slot) = indexed_good d.value D.value f n slot es
-  index_good d D f n es None = bind_good program _ (applied_good d D f n 1 es) (λ vs. first_good n.place vs)
+  index_good d D f n es None = bind_good program _ (applied_good d D f n 1 es) (λ vs. first_good program n.place vs)
 
   compound_kind : (d : Level) → GoodLevel d → (f : Frame) (place : Place) (kind : ExprKind-F ExprKind Expr) → IsGood (compound_of program d f place kind)
   compound_kind d D f place (ExprKind-F.Apply n es) = index_good d D f n es (slot_of program f n.text)
-  compound_kind d D f place (ExprKind-F.Unary op a) = unary_good d.value D.value program.mode f place op a
-  compound_kind d D f place (ExprKind-F.Binary op a b) = operated_good d.value D.value program.mode f place op a b
+  compound_kind d D f place (ExprKind-F.Unary op a) = unary_good d.value D.value f place op a
+  compound_kind d D f place (ExprKind-F.Binary op a b) = operated_good d.value D.value f place op a b
   compound_kind d D f place (ExprKind-F.Range a s b) = range_good d.value D.value f place a s b
   compound_kind d D f place (ExprKind-F.Rows ess) = bracket_good d.value D.value f place ess
-  compound_kind d D f place (ExprKind-F.Func n) = handle_good n.place (number_of_name (local_names program.program.functions) n.text)
+  compound_kind d D f place (ExprKind-F.Func n) = handle_good n.place (number_of_name (record { locals = local_names program.program.functions; extras = program.extras }) n.text)
   compound_kind d D f place ExprKind-F.End = end_good f.ends place
   compound_kind d D f place kind = raise_good program _
 

@@ -1,6 +1,7 @@
 pub mod Shapes
 pub mod Standing
 pub mod Asking
+pub mod Doors
 pub mod Laying
 pub mod Expressions
 pub mod Statements

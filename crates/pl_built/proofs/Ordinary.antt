@@ -1,30 +1,23 @@
 -- A loop over workers of which a run asks meets what the laws of such loops suppose of its form and its workspace.
-use Rattle.std.specs.Prelude.{nat_eq}
-use Rattle.std.specs.Cmp.Lexicographic.{pointwise}
-use Rattle.std.proofs.Common.{◌≡◌, ◌∙◌, ℕ, ◌<◌, ◌⊎◌, inl, inr, length, List, [], true, Option, Some, None, arith, refl, ap}
-use Rattle.std.proofs.lemmas.List.Quantifiers.{position-Some}
+use Rattle.std.proofs.Common.{◌≡◌, ◌∙◌, ℕ, ◌<◌, ◌⊎◌, inl, inr, length, List, true, Option, Some, None, arith, refl, ap}
 use Rattle.pl_resolve.specs.declared.resolved.Resolved.{Resolved}
-use Rattle.pl_resolve.specs.Functions.{place_in}
 use Rattle.pl_values.specs.declared.value.Value.{Value}
 use Rattle.pl_values.specs.declared.value.Value.TheVariants as value
 use Rattle.pl_values.specs.Workspaces.{value_at}
 use Rattle.pl_meaning.specs.Forms.{is_form}
 use Rattle.pl_meaning.specs.Loops.{body_frame}
-use Rattle.pl_meaning.specs.Logs.{Workspace, Question}
+use Rattle.pl_meaning.specs.Logs.{Workspace, LoopQuestion, OfLoop}
 use Rattle.pl_meaning.specs.Names.{names_in, slot_of}
 use Rattle.pl_unbuilt.specs.Unbuilt.{unbuilt_of}
 use Rattle.pl_frame.specs.Ordering.{HasArray, IsNew, IsReady}
 use Rattle.pl_frame.proofs.Ordinary.{ordinary}
 use Rattle.pl_built.specs.Ordinary.{IsAsked, AreFull, ReadyLaw, AskedOrdinaryLaw}
+use Rattle.pl_built.proofs.Doors.{place_within}
 use Rattle.pl_built.proofs.Runs.{asked_law, slots_law, laid_there}
 
--- a name's place is one of the places
-place_within : (names : List (List ℕ)) (name : List ℕ) (at : ℕ) → place_in names name ≡ Some at → at < length names
-place_within names name at is = (position-Some (pointwise nat_eq name) names at [] is).0
-
-module _ (program : Resolved) (unbuilt : unbuilt_of program ≡ None) (q : Question) (env : Workspace) (asked : IsAsked program q env) where
+module _ (program : Resolved) (unbuilt : unbuilt_of program ≡ None) (q : LoopQuestion) (env : Workspace) (asked : IsAsked program q env) where
   form_there : is_form program (body_frame q) q.index q.body ≡ true
-  form_there = asked_law program unbuilt asked.start asked.turns asked.depth asked.rules asked.choices q env asked.stops
+  form_there = asked_law program unbuilt asked.start asked.turns asked.depth asked.rules asked.choices (OfLoop q) env asked.stops
 
   -- a workspace with a slot for each name has one for each name
   slot_there : (name : List ℕ) (at : ℕ) → slot_of program (body_frame q) name ≡ Some at → at < length env

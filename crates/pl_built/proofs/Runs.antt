@@ -7,7 +7,7 @@ use Rattle.pl_base.specs.declared.errors.Place.{Place}
 use Rattle.pl_syntax.specs.declared.stmt.Function.{Function}
 use Rattle.pl_values.specs.declared.value.Value.{Value}
 use Rattle.pl_resolve.specs.declared.resolved.Resolved.{Resolved}
-use Rattle.pl_meaning.specs.Logs.{Workspace, Question, Rules}
+use Rattle.pl_meaning.specs.Logs.{Workspace, LoopQuestion, Asked, OfLoop, Rules}
 use Rattle.pl_meaning.specs.Running.{Done, Raised, Asks}
 use Rattle.pl_meaning.specs.Runs.{outermost, finished, failed, Run}
 use Rattle.pl_meaning.specs.Parts.{Level, level_at, below, call_in}
@@ -19,10 +19,10 @@ use Rattle.pl_built.proofs.Asking.{width, AreLaid, IsLong, Fine, Good}
 use Rattle.pl_built.proofs.Expressions.{IsCalm, GoodLevel, GoodBelow, value_good, outputs_good}
 use Rattle.pl_built.proofs.Statements.{entered_good, ends_good, block_good}
 
-done_asks : (u v : Workspace) (left : List Choice) (q : Question) → Done u left ≡ Asks q v → ⊥
+done_asks : (u v : Workspace) (left : List Choice) (q : Asked) → Done u left ≡ Asks q v → ⊥
 done_asks u v left q e = cc
 
-raised_asks : (x : ScriptError) (v : Workspace) (left : List Choice) (q : Question) → Raised x left ≡ Asks q v → ⊥
+raised_asks : (x : ScriptError) (v : Workspace) (left : List Choice) (q : Asked) → Raised x left ≡ Asks q v → ⊥
 raised_asks x v left q e = cc
 
 module _ (program : Resolved) (none : of_program program ≡ []) where
@@ -32,9 +32,9 @@ module _ (program : Resolved) (none : of_program program ≡ []) where
       ∙ ap (λ o. of_block program (frame_of (suc i)) (body_of o)) (sym is)
       ∙ none_of_scope program (suc i) none
 
-  call_good : (l : Option Level) → GoodBelow program l → (place : Place) (i nout : ℕ) (vs : List Value) → Good program (call_in program l place i nout vs)
+  call_good : (l : Option Level) → GoodBelow program l → (client : Bool) (place : Place) (i nout : ℕ) (vs : List Value) → Good program (call_in program l client place i nout vs)
   unfolding call_in
-  call_good l L place i nout vs = entered_good program l L place i nout vs (slice_get program.program.functions i) (function_calm i)
+  call_good l L client place i nout vs = entered_good program l L client place i nout vs (slice_get program.program.functions i) (function_calm i)
 
   level_good : (l : Option Level) → GoodBelow program l → GoodLevel program (level_at program l)
   level_good l L = record {
@@ -56,9 +56,9 @@ module _ (program : Resolved) (none : of_program program ≡ []) where
   unfolding Run
   run_fine wide start turns depth rules choices begun =
       (block_good program (below program depth) (below_good depth) outermost program.program.body (none_of_scope program 0 none)).fine wide finished finished failed failed
-      (λ x s w. record { asks = λ q v e. absurd (done_asks s.env v s.choices q e); long = λ q v e. absurd (done_asks s.env v s.choices q e); laid = λ q v e. absurd (done_asks s.env v s.choices q e); same = refl })
-      (λ x s w. record { asks = λ q v e. absurd (raised_asks x v s.choices q e); long = λ q v e. absurd (raised_asks x v s.choices q e); laid = λ q v e. absurd (raised_asks x v s.choices q e); same = refl })
-      (record { env = start; turns = turns; choices = choices; rules = rules }) begun
+      (λ x s w. record { asks = λ q v e. absurd (done_asks s.env v s.choices q e); long = λ q v e. absurd (done_asks s.env v s.choices (OfLoop q) e); laid = λ q v e. absurd (done_asks s.env v s.choices (OfLoop q) e); same = refl })
+      (λ x s w. record { asks = λ q v e. absurd (raised_asks x v s.choices q e); long = λ q v e. absurd (raised_asks x v s.choices (OfLoop q) e); laid = λ q v e. absurd (raised_asks x v s.choices (OfLoop q) e); same = refl })
+      (record { env = start; turns = turns; calls = 0; choices = choices; rules = rules }) begun
 
   -- from whatever workspace
   any_fine : (start : Workspace) (turns depth : ℕ) (rules : Rules) (choices : List Choice) → Fine program false (Run program start turns depth rules choices) (Run program start turns depth (built_rules program rules) choices)
@@ -74,5 +74,5 @@ pub slots_law : SlotsLaw
 slots_law program unbuilt start turns depth rules choices long q env is = (run_fine program (no_nodes (of_program program) (name_of program) unbuilt) true start turns depth rules choices (λ yes'. long)).long q env is refl
 
 -- the variables that the body of a loop that is asked of writes have arrays, or no value
-pub laid_there : (program : Resolved) → unbuilt_of program ≡ None → (start : Workspace) (turns depth : ℕ) (rules : Rules) (choices : List Choice) (q : Question) (env : Workspace) → (Run program start turns depth rules choices).ending ≡ Asks q env → AreLaid program q env
+pub laid_there : (program : Resolved) → unbuilt_of program ≡ None → (start : Workspace) (turns depth : ℕ) (rules : Rules) (choices : List Choice) (q : LoopQuestion) (env : Workspace) → (Run program start turns depth rules choices).ending ≡ Asks (OfLoop q) env → AreLaid program q env
 laid_there program unbuilt start turns depth rules choices q env is = (any_fine program (no_nodes (of_program program) (name_of program) unbuilt) start turns depth rules choices).laid q env is

@@ -1,5 +1,5 @@
--- A statement without nodes stops at no question but one of a loop of the form, in a workspace of its scope, if the parts below
--- it don't.
+-- A statement without nodes stops at no question but those of a built program, and at a loop's in a workspace of its scope, if the
+-- parts below it don't.
 use Rattle.std.specs.Prelude.{◌≡◌, nat_lt, ◌||◌, codes}
 use Rattle.std.proofs.Common.{◌∙◌, ℕ, zero, suc, ◌+◌, ◌++◌, List, [], ◌∷◌, length, replicate, Bool, true, false, Option, Some, None, refl, sym, subst}
 use Rattle.std.proofs.lemmas.List.{length-set, length-replicate}
@@ -106,11 +106,11 @@ module _ (program : Resolved) where
   body_good : (d : Level) → GoodLevel program d → (f : Frame) (place : Place) (g : Function) (vs : List Value) → IsCalm program f.scope g.body → IsGood (body_of program d f place g vs)
   body_good d D f place g vs calm = inside_good program (entry_of program f g vs) (ran program d f place g) (subst (λ n. GoodAt program n (ran program d f place g)) (sym (entry_long f g vs)) (bind_at program _ (D.block f g.body calm) (λ x. (results_good f place g).at (width program f.scope))))
 
-  pub entered_good : (l : Option Level) → GoodBelow program l → (place : Place) (i nout : ℕ) (vs : List Value) (o : Option Function) → ((g : Function) → o ≡ Some g → IsCalm program (i + 1) g.body) → IsGood (entered program l place i nout vs o)
-  entered_good l L place i nout vs None calm = raise_good program _
-  entered_good l L place i nout vs (Some g) calm =
+  pub entered_good : (l : Option Level) → GoodBelow program l → (client : Bool) (place : Place) (i nout : ℕ) (vs : List Value) (o : Option Function) → ((g : Function) → o ≡ Some g → IsCalm program (i + 1) g.body) → IsGood (entered program l client place i nout vs o)
+  entered_good l L client place i nout vs None calm = raise_good program _
+  entered_good l L client place i nout vs (Some g) calm =
       choice_good program (nat_lt (length g.params) (length vs) || nat_lt (length g.outs) nout) _ _ (raise_good program _)
-      (bind_good program _ (take_turn_good program place) (λ u. enter_good program l L place (λ d. body_of program d (call_frame program i (length vs) nout) place g vs) (λ d D. body_good d D (call_frame program i (length vs) nout) place g vs (calm g refl))))
+      (bind_good program _ (take_turn_good program place) (λ u. enter_good program l L place (λ d. body_of program d (call_frame program client i (length vs) nout) place g vs) (λ d D. body_good d D (call_frame program client i (length vs) nout) place g vs (calm g refl))))
 
   -- ## Simple statements
 
@@ -152,15 +152,16 @@ module _ (program : Resolved) where
   taken_good [] = pure_good program tt
   taken_good (o ∷ more) = bind_good program _ (write_good program o.slot o.value) (λ u. taken_good more)
 
-  answered_good : (a : Answer) → IsGood (answered a)
-  answered_good (Answer.Raised e) = raise_good program e
-  answered_good (Answer.Looped l) = bind_good program _ (tell_good program _) (λ u. bind_good program _ (taken_good l.outputs) (λ w. pure_good program Onward))
+  answered_good : (place : Place) (a : Answer) → IsGood (answered place a)
+  answered_good place (Answer.Raised e) = raise_good program e
+  answered_good place (Answer.Extra reply text calls) = raise_good program _
+  answered_good place (Answer.Looped l) = bind_good program _ (tell_good program _) (λ u. bind_good program _ (taken_good l.outputs) (λ w. pure_good program Onward))
 
   -- the question of a loop of the form
   shared_good : (f : Frame) (place : Place) (n : Name) (body : List Stmt) (x y : Value) → is_form program (frame_of f.scope) n body ≡ true → IsGoodIn f (shared program f place n body x y)
   unfolding shared
   shared_good f place n body x y form =
-      bind_at program _ ((settle_good program place _).at _) (λ b. where_at program (λ env. tt) (all_laid_where program (λ env. Unit {0}) f place (written_in body) _ (take_turn_where program place _ (bind_where program _ (widened program (λ env has. has.1) (ask_where program _ form)) (λ a. (answered_good a).at _)))))
+      bind_at program _ ((settle_good program place _).at _) (λ b. where_at program (λ env. tt) (all_laid_where program (λ env. Unit {0}) f place (written_in body) _ (take_turn_where program place _ (bind_where program _ (widened program (λ env has. has.1) (ask_where program _ form)) (λ a. (answered_good place a).at _)))))
 
   ends_kind : (l : Option Level) → GoodBelow program l → (f : Frame) (place : Place) (kind : ExprKind-F ExprKind Expr) → IsGood (ends_at program l f place kind)
   ends_kind l L f place (ExprKind-F.Range a None b) = enter_good program l L place _ (λ d D. bind_good program _ (D.value f a) (λ x. bind_good program _ (D.value f b) (λ y. pure_good program (x, y))))

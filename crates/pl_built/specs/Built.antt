@@ -1,6 +1,6 @@
 -- The laws of built programs: their loops over workers are of the form of which the laws of loops speak, and a run asks of no others,
--- from workspaces as long as their scopes.
-use Rattle.std.specs.Prelude.{◌≡◌, ◌⊎◌, ℕ, zero, suc, List, [], ◌∷◌, length, map, slice_get, true, Option, Some, None, if◌then◌else◌}
+-- from workspaces as long as their scopes, nor of extras that the program's table doesn't have.
+use Rattle.std.specs.Prelude.{◌≡◌, ◌⊎◌, ℕ, zero, suc, nat_lt, List, [], ◌∷◌, length, map, slice_get, Bool, true, Option, Some, None, if◌then◌else◌}
 use Rattle.pl_base.specs.declared.choice.Choice.{Choice}
 use Rattle.pl_syntax.specs.declared.expr.Expr.{Expr}
 use Rattle.pl_syntax.specs.declared.stmt.Arm.{Arm, out-Arm}
@@ -9,7 +9,7 @@ use Rattle.pl_syntax.specs.declared.stmt.StmtKind.{StmtKind, out-StmtKind}
 use Rattle.pl_syntax.specs.declared.stmt.StmtKind.TheOpen.{StmtKind-F}
 use Rattle.pl_syntax.specs.declared.stmt.Function.{Function}
 use Rattle.pl_resolve.specs.declared.resolved.Resolved.{Resolved}
-use Rattle.pl_meaning.specs.Logs.{Workspace, Question, Rules}
+use Rattle.pl_meaning.specs.Logs.{Workspace, LoopQuestion, Asked, OfLoop, OfExtra, Rules}
 use Rattle.pl_meaning.specs.Forms.{is_form}
 use Rattle.pl_meaning.specs.Loops.{body_frame}
 use Rattle.pl_meaning.specs.Names.{names_in}
@@ -59,33 +59,38 @@ statements_of program (suc i) = body_of (slice_get program.program.functions i)
 abbrev pub BuiltLaw : Type 0
 BuiltLaw = (program : Resolved)
     → unbuilt_of program ≡ None
-    → (q : Question) (s : Stmt) (range : Expr) (most : Option Expr)
+    → (q : LoopQuestion) (s : Stmt) (range : Expr) (most : Option Expr)
     → StandsIn (statements_of program q.scope) s
     → kind_of s ≡ StmtKind-F.Parfor q.index range most q.body
     → (is_form program (body_frame q) q.index q.body ≡ true) × (most ≡ None) × (is_between range ≡ true)
 
--- a run of such a program, by whatever rules under whatever choices, stops at no question but one of a loop whose body is of the form
+-- a question of a loop whose body is of the form, or of an extra that the program's table has
+abbrev pub is_built_question : Resolved → Asked → Bool
+is_built_question program (OfLoop q) = is_form program (body_frame q) q.index q.body
+is_built_question program (OfExtra number operands outputs) = nat_lt number (length program.extras)
+
+-- a run of such a program, by whatever rules under whatever choices, stops at no other question
 abbrev pub AskedLaw : Type 0
 AskedLaw = (program : Resolved)
     → unbuilt_of program ≡ None
-    → (start : Workspace) (turns depth : ℕ) (rules : Rules) (choices : List Choice) (q : Question) (env : Workspace)
+    → (start : Workspace) (turns depth : ℕ) (rules : Rules) (choices : List Choice) (q : Asked) (env : Workspace)
     → (Run program start turns depth rules choices).ending ≡ Asks q env
-    → is_form program (body_frame q) q.index q.body ≡ true
+    → is_built_question program q ≡ true
 
--- and where it began in a workspace with a slot for each name of the script, each question comes from a workspace with a slot for
--- each name of its loop's scope
+-- and where it began in a workspace with a slot for each name of the script, the question of a loop comes from a workspace with a
+-- slot for each name of the loop's scope
 abbrev pub SlotsLaw : Type 0
 SlotsLaw = (program : Resolved)
     → unbuilt_of program ≡ None
     → (start : Workspace) (turns depth : ℕ) (rules : Rules) (choices : List Choice)
     → length start ≡ length (names_in program 0)
-    → (q : Question) (env : Workspace)
-    → (Run program start turns depth rules choices).ending ≡ Asks q env
+    → (q : LoopQuestion) (env : Workspace)
+    → (Run program start turns depth rules choices).ending ≡ Asks (OfLoop q) env
     → length env ≡ length (names_in program q.scope)
 
--- the same rules, but that they answer questions of such loops alone
+-- the same rules, but that they answer such questions alone
 abbrev pub built_rules : Resolved → Rules → Rules
-built_rules program rules q env c = if is_form program (body_frame q) q.index q.body then rules q env c else None
+built_rules program rules = record { kept = rules.kept; reply = λ kept q env choices. if is_built_question program q then rules.reply kept q env choices else None }
 
 -- and the run is the same by those rules: what its choices answer are such questions
 abbrev pub RulesLaw : Type 0

@@ -11,10 +11,10 @@ pub fn built_loops_have_the_form()
 {}
 
 /// Holds of all runs of a program of which nothing isn't built, by whatever rules under whatever choices: one that stops
-/// at a question stops at a loop over workers whose body is of the form that is built, and the run is the same by rules
-/// that answer questions of such loops alone. So no run asks of another loop. Where it began in a workspace with a slot for
-/// each name of the script, the question comes from a workspace with a slot for each name of the loop's scope. It does
-/// nothing when it runs.
+/// at a question stops at a loop over workers whose body is of the form that is built, or at an extra that the program's
+/// table has; and the run is the same by rules that answer such questions alone. So no run asks of another loop. Where it
+/// began in a workspace with a slot for each name of the script, the question of a loop comes from a workspace with a slot
+/// for each name of the loop's scope. It does nothing when it runs.
 pub fn runs_ask_of_built_loops()
     ensures asks { AskedLaw }
     ensures answers { RulesLaw }

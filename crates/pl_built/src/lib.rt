@@ -3,9 +3,9 @@
 //! A source is refused by where its program first uses what nothing carries out yet (`unbuilt_of`), and the laws of
 //! loops over workers speak of bodies of one form (`is_form`). The laws (`specs/Built.antt`) join the two. Wherever a
 //! loop stands in a program that isn't refused, its body is of the form; and a run of such a program asks only of
-//! loops of the form, whatever the rules and the choices are, and from workspaces with a slot for each name. So what
-//! the laws of `pl_frame` suppose holds of each loop of which a run asks, where the arrays that it writes are full
-//! (`specs/Ordinary.antt`). Nothing here runs.
+//! loops of the form, whatever the rules and the choices are, and from workspaces with a slot for each name, and of
+//! extras that the program's table has. So what the laws of `pl_frame` suppose holds of each loop of which a run
+//! asks, where the arrays that it writes are full (`specs/Ordinary.antt`). Nothing here runs.
 #![tactic(auto)]
 
 mod law;

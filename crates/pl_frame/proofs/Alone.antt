@@ -31,14 +31,14 @@ use Rattle.pl_operators.specs.Picking.{subscript, single_index, put_call, assign
 use Rattle.pl_resolve.specs.declared.resolved.Resolved.{Resolved}
 use Rattle.pl_meaning.specs.declared.frame.Frame.{Frame}
 use Rattle.pl_meaning.specs.Known.{same}
-use Rattle.pl_meaning.specs.Logs.{Workspace, Question, Rules, Trace}
+use Rattle.pl_meaning.specs.Logs.{Workspace, LoopQuestion, Trace}
 use Rattle.pl_meaning.specs.Names.{slot_of}
 use Rattle.pl_meaning.specs.Running.{Done, Outcome}
 use Rattle.pl_meaning.specs.Runs.{finished, failed}
 use Rattle.pl_meaning.specs.Parts.{below, block_from, written_in, value_in}
 use Rattle.pl_meaning.specs.Forms.{is_among, is_item}
 use Rattle.pl_meaning.specs.Loops.{own_places, body_frame}
-use Rattle.pl_frame.specs.Seeing.{standing, Comes_to, Framed}
+use Rattle.pl_frame.specs.Seeing.{Course, standing, Comes_to, Framed}
 use Rattle.pl_frame.specs.Ordering.{HasArray}
 use Rattle.pl_frame.proofs.Values.{own_list, and_first, and_second}
 use Rattle.pl_frame.proofs.Growth.{Grown, from_line}
@@ -72,7 +72,7 @@ first_only (pos n) call a h = by_low (nat_lt n 1) refl h
 itself_holds : (b : Array) → length b.cells ≡ b.rows * b.cols → Holding b [] b
 itself_holds b c = record { class = refl; grown = Grown.stays (omega arith) refl; count = c; cells = λ k. refl }
 
-module _ (program : Resolved) (q : Question) (env : Workspace) (depth : ℕ) (i : ℤ) where
+module _ (program : Resolved) (q : LoopQuestion) (env : Workspace) (depth : ℕ) (i : ℤ) where
   abbrev f : Frame
   f = body_frame q
 
@@ -184,7 +184,7 @@ module _ (program : Resolved) (q : Question) (env : Workspace) (depth : ℕ) (i 
       pub apart : (s : ℕ) → (Named s → ⊥) → (s ≡ at → ⊥) → value_at one s ≡ value_at E s
 
     abbrev pub Reaches : List Stmt → Type 0
-    Reaches ss = (E one : Workspace) → value_at E at ≡ Some (number_of i) → length E ≡ length env → ((s : ℕ) → Named s → State E s) → (t : ℕ) (c d : List Choice) (r : Rules) → (block_from program (below program depth) f ss finished failed (standing E t c r)).ending ≡ Done one d → Reached ss E one
+    Reaches ss = (E one : Workspace) → value_at E at ≡ Some (number_of i) → length E ≡ length env → ((s : ℕ) → Named s → State E s) → (t : ℕ) (c d : List Choice) (r : Course) → (block_from program (below program depth) f ss finished failed (standing E t c r)).ending ≡ Done one d → Reached ss E one
 
     abbrev Fits_in : List Stmt → Type 0
     Fits_in ss = (n : Name) → is_among (written_in ss) n ≡ true → is_among names n ≡ true
@@ -214,7 +214,7 @@ module _ (program : Resolved) (q : Question) (env : Workspace) (depth : ℕ) (i 
         apart = λ j no other. R.apart j no other ∙ set_elsewhere E I.slot j (Some a) (λ e. no (subst Named e named));
       }
 
-      by_assign : (rest : Reaches more) (E one : Workspace) (ei : value_at E at ≡ Some (number_of i)) → length E ≡ length env → ((s : ℕ) → Named s → State E s) → (ts : List Trace) (v : Value) → Comes_to (value_in program (below program depth) f I.value) E ts (Ok v) → (x : Result Value ErrKind) → assign_value (value_at E I.slot) (own_places i) v ≡ x → (t : ℕ) (c d : List Choice) (r : Rules) → (block_from program (below program depth) f (s ∷ more) finished failed (standing E t c r)).ending ≡ Done one d → Reached (s ∷ more) E one
+      by_assign : (rest : Reaches more) (E one : Workspace) (ei : value_at E at ≡ Some (number_of i)) → length E ≡ length env → ((s : ℕ) → Named s → State E s) → (ts : List Trace) (v : Value) → Comes_to (value_in program (below program depth) f I.value) E ts (Ok v) → (x : Result Value ErrKind) → assign_value (value_at E I.slot) (own_places i) v ≡ x → (t : ℕ) (c d : List Choice) (r : Course) → (block_from program (below program depth) f (s ∷ more) finished failed (standing E t c r)).ending ≡ Done one d → Reached (s ∷ more) E one
       by_assign rest E one ei len states ts v V (Ok a) A t c d r h =
           let run = run_is program q depth names i at at_is s more I E t c r ∙ goes program f q.index names (below program depth) i I.name I.list I.value I.slot I.slot_is E ts v a V
           (own_list program f q.index names i E E (itself program q depth names i at at_is E ei) at at_is (value_in program (below program depth)) (frames program q depth names i at at_is E ei) None I.slot I.list I.own E ei) A _ failed t c r in
@@ -225,7 +225,7 @@ module _ (program : Resolved) (q : Question) (env : Workspace) (depth : ℕ) (i 
           (own_list program f q.index names i E E (itself program q depth names i at at_is E ei) at at_is (value_in program (below program depth)) (frames program q depth names i at at_is E ei) None I.slot I.list I.own E ei) A _ failed t c r in
           absurd (no_end (error_of kind I.name.place) c d one (sym (ap (λ (x : Outcome). x.ending) run) ∙ h))
 
-      by_value : (rest : Reaches more) (E one : Workspace) (ei : value_at E at ≡ Some (number_of i)) → length E ≡ length env → ((s : ℕ) → Named s → State E s) → (P : Framed E E (value_in program (below program depth) f I.value)) (g : Result Value ScriptError) → P.gives ≡ g → (t : ℕ) (c d : List Choice) (r : Rules) → (block_from program (below program depth) f (s ∷ more) finished failed (standing E t c r)).ending ≡ Done one d → Reached (s ∷ more) E one
+      by_value : (rest : Reaches more) (E one : Workspace) (ei : value_at E at ≡ Some (number_of i)) → length E ≡ length env → ((s : ℕ) → Named s → State E s) → (P : Framed E E (value_in program (below program depth) f I.value)) (g : Result Value ScriptError) → P.gives ≡ g → (t : ℕ) (c d : List Choice) (r : Course) → (block_from program (below program depth) f (s ∷ more) finished failed (standing E t c r)).ending ≡ Done one d → Reached (s ∷ more) E one
       by_value rest E one ei len states P (Ok v) is t c d r h =
           by_assign rest E one ei len states P.shown v (P.there v is) (assign_value (value_at E I.slot) (own_places i) v) refl t c d r h
       by_value rest E one ei len states P (Err x) is t c d r h =

@@ -15,7 +15,7 @@ use Rattle.pl_operators.specs.Operands.{and_then}
 use Rattle.pl_resolve.specs.declared.resolved.Resolved.{Resolved}
 use Rattle.pl_meaning.specs.declared.event.Output.{Output}
 use Rattle.pl_meaning.specs.declared.event.Clash.{Clash}
-use Rattle.pl_meaning.specs.Logs.{Workspace, Question}
+use Rattle.pl_meaning.specs.Logs.{Workspace, LoopQuestion}
 use Rattle.pl_meaning.specs.Names.{slot_of}
 use Rattle.pl_meaning.specs.Parts.{with_slot, written_in}
 use Rattle.pl_meaning.specs.Forms.{is_among, is_item}
@@ -89,7 +89,7 @@ one_put new old w ws h = by_put (put_in new old w) h
     by_put (Ok u) g = some_put new u ws g
     by_put (Err kind) g = no_refused kind g
 
-module _ (program : Resolved) (q : Question) (env : Workspace) (turns depth : ℕ) where
+module _ (program : Resolved) (q : LoopQuestion) (env : Workspace) (turns depth : ℕ) where
   same_outs : (a b : List Output) → ◌≡◌ {A = Result (List Output) Clash} (Ok a) (Ok b) → a ≡ b
   same_outs a b e = cc
 

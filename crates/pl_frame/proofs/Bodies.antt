@@ -23,13 +23,13 @@ use Rattle.pl_meaning.specs.declared.frame.Exit.{Exit}
 use Rattle.pl_meaning.specs.declared.frame.Exit.TheVariants.{Onward}
 use Rattle.pl_meaning.specs.Accesses.{put, write_part}
 use Rattle.pl_meaning.specs.Known.{same}
-use Rattle.pl_meaning.specs.Logs.{Workspace, Trace, Rules}
+use Rattle.pl_meaning.specs.Logs.{Workspace, Trace}
 use Rattle.pl_meaning.specs.Names.{slot_of}
 use Rattle.pl_meaning.specs.Running.{Rest, before, pure, ◌>>=◌}
 use Rattle.pl_meaning.specs.Parts.{Level, value_in, places, assigned, assigned_part, shown_target, assignment, stmt_in, stmt_at, written_by, written_in}
 use Rattle.pl_meaning.specs.Forms.{is_among, is_item, is_item_at, is_own_place, only_index, read_of}
 use Rattle.pl_meaning.specs.Loops.{own_places}
-use Rattle.pl_frame.specs.Seeing.{standing, Comes_to}
+use Rattle.pl_frame.specs.Seeing.{Course, standing, Comes_to}
 use Rattle.pl_frame.proofs.Values.{and_first, and_second, not_true}
 
 pub same_self : (t : List ℕ) → same t t ≡ true
@@ -93,7 +93,7 @@ module _ (program : Resolved) (f : Frame) (index : Name) (written : List Name) w
   -- ## An assignment to a part, as it goes
 
   pub goes : (l : Option Level) (i : ℤ) (n : Name) (es : List Expr) (e : Expr) (slot : ℕ) → slot_of program f n.text ≡ Some slot → (W : Workspace) (ts : List Trace) (v a : Value) → Comes_to (value_in program l f e) W ts (Ok v) → Comes_to (places (value_in program l) f slot es) W [] (Ok (own_places i)) → assign_value (value_at W slot) (own_places i) v ≡ Ok a
-      → (k : Exit → Rest) (h : ScriptError → Rest) (t : ℕ) (c : List Choice) (r : Rules) → assignment program l f false (Indexed n es) e k h (standing W t c r) ≡ before ts (k Onward (standing (slice_set W slot (Some a)) t c r))
+      → (k : Exit → Rest) (h : ScriptError → Rest) (t : ℕ) (c : List Choice) (r : Course) → assignment program l f false (Indexed n es) e k h (standing W t c r) ≡ before ts (k Onward (standing (slice_set W slot (Some a)) t c r))
   unfolding assignment assigned shown_target write_part
   goes l i n es e slot is W ts v a V P A k h t c r =
       V (λ x. (assigned program l f (Indexed n es) x >>= (λ u. shown_target program false f (Indexed n es) >>= (λ w. pure Onward))) k h) h t c r
@@ -103,12 +103,12 @@ module _ (program : Resolved) (f : Frame) (index : Name) (written : List Name) w
       ∙ ap (λ (z : Result Value ErrKind). put slot n.place z (λ u. k Onward) h (standing W t c r)) A)
 
   pub fails_value : (l : Option Level) (n : Name) (es : List Expr) (e : Expr) (W : Workspace) (ts : List Trace) (x : ScriptError) → Comes_to (value_in program l f e) W ts (Err x)
-      → (k : Exit → Rest) (h : ScriptError → Rest) (t : ℕ) (c : List Choice) (r : Rules) → assignment program l f false (Indexed n es) e k h (standing W t c r) ≡ before ts (h x (standing W t c r))
+      → (k : Exit → Rest) (h : ScriptError → Rest) (t : ℕ) (c : List Choice) (r : Course) → assignment program l f false (Indexed n es) e k h (standing W t c r) ≡ before ts (h x (standing W t c r))
   unfolding assignment
   fails_value l n es e W ts x V k h t c r = V (λ x. (assigned program l f (Indexed n es) x >>= (λ u. shown_target program false f (Indexed n es) >>= (λ w. pure Onward))) k h) h t c r
 
   pub fails_put : (l : Option Level) (i : ℤ) (n : Name) (es : List Expr) (e : Expr) (slot : ℕ) → slot_of program f n.text ≡ Some slot → (W : Workspace) (ts : List Trace) (v : Value) (kind : ErrKind) → Comes_to (value_in program l f e) W ts (Ok v) → Comes_to (places (value_in program l) f slot es) W [] (Ok (own_places i)) → assign_value (value_at W slot) (own_places i) v ≡ Err kind
-      → (k : Exit → Rest) (h : ScriptError → Rest) (t : ℕ) (c : List Choice) (r : Rules) → assignment program l f false (Indexed n es) e k h (standing W t c r) ≡ before ts (h (error_of kind n.place) (standing W t c r))
+      → (k : Exit → Rest) (h : ScriptError → Rest) (t : ℕ) (c : List Choice) (r : Course) → assignment program l f false (Indexed n es) e k h (standing W t c r) ≡ before ts (h (error_of kind n.place) (standing W t c r))
   unfolding assignment assigned shown_target write_part
   fails_put l i n es e slot is W ts v kind V P A k h t c r =
       V (λ x. (assigned program l f (Indexed n es) x >>= (λ u. shown_target program false f (Indexed n es) >>= (λ w. pure Onward))) k h) h t c r

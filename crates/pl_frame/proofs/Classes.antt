@@ -16,7 +16,7 @@ use Rattle.pl_values.specs.Workspaces.{value_at}
 use Rattle.pl_operators.specs.Bracketing.{number_of}
 use Rattle.pl_operators.specs.Picking.{assign_to_futures, assign_at, assign_value}
 use Rattle.pl_resolve.specs.declared.resolved.Resolved.{Resolved}
-use Rattle.pl_meaning.specs.Logs.{Workspace, Question, Trace}
+use Rattle.pl_meaning.specs.Logs.{Workspace, LoopQuestion, Trace}
 use Rattle.pl_meaning.specs.Names.{slot_of}
 use Rattle.pl_meaning.specs.Parts.{written_in, with_slot}
 use Rattle.pl_meaning.specs.Forms.{is_among}
@@ -56,7 +56,7 @@ made_class : (o : Option Value) (v a : Value) (y : Array) (i : ℤ) → out-Valu
 made_class None v a y i is A m = keeps_class (value.Array (nothing y.class)) v a i (sym (assigns_new y i v is) ∙ A) ∙ class_of_array (nothing y.class)
 made_class (Some u) v a y i is A m = keeps_class u v a i A ∙ old_class u v a y i is A m
 
-module _ (program : Resolved) (depth : ℕ) (q : Question) (env : Workspace) (k : ℕ → Option Class) where
+module _ (program : Resolved) (depth : ℕ) (q : LoopQuestion) (env : Workspace) (k : ℕ → Option Class) where
   -- a slot that the body writes
   abbrev pub Target : ℕ → Type 0
   Target s = (n : Name) × (is_among (written_in q.body) n ≡ true) × (slot_of program (body_frame q) n.text ≡ Some s)

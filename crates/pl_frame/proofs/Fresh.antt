@@ -22,7 +22,7 @@ use Rattle.pl_operators.specs.Picking.{assign_value}
 use Rattle.pl_resolve.specs.declared.resolved.Resolved.{Resolved}
 use Rattle.pl_meaning.specs.declared.event.Output.{Output}
 use Rattle.pl_meaning.specs.Known.{same}
-use Rattle.pl_meaning.specs.Logs.{Workspace, Question}
+use Rattle.pl_meaning.specs.Logs.{Workspace, LoopQuestion}
 use Rattle.pl_meaning.specs.Names.{slot_of}
 use Rattle.pl_meaning.specs.Parts.{written_in}
 use Rattle.pl_meaning.specs.Forms.{is_among, is_item}
@@ -78,7 +78,7 @@ put_class v u y k i h p = by_test (is_mixed (Some v) (value.Array y)) refl p
     by_test true e p = absurd (cc)
     by_test false e p = (unmixed v y k h e, keeps_class v (value.Array y) u i p ∙ h)
 
-module _ (program : Resolved) (q : Question) (env : Workspace) (turns depth : ℕ) where
+module _ (program : Resolved) (q : LoopQuestion) (env : Workspace) (turns depth : ℕ) where
   abbrev end_at : ℤ → Option Workspace
   end_at = ends_of program turns depth q env
 

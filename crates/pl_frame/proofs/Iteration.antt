@@ -29,14 +29,14 @@ use Rattle.pl_operators.specs.Picking.{assign_value, select_value}
 use Rattle.pl_resolve.specs.declared.resolved.Resolved.{Resolved}
 use Rattle.pl_meaning.specs.declared.frame.Frame.{Frame}
 use Rattle.pl_meaning.specs.Known.{same}
-use Rattle.pl_meaning.specs.Logs.{Workspace, Question, Rules, Trace}
+use Rattle.pl_meaning.specs.Logs.{Workspace, LoopQuestion, Trace}
 use Rattle.pl_meaning.specs.Names.{names_in, slot_of}
 use Rattle.pl_meaning.specs.Running.{Done, Raised, Outcome, before}
 use Rattle.pl_meaning.specs.Runs.{finished, failed}
 use Rattle.pl_meaning.specs.Parts.{below, block_from, written_in, sequel, value_in, assignment}
 use Rattle.pl_meaning.specs.Forms.{is_among, is_item}
 use Rattle.pl_meaning.specs.Loops.{own_places, body_frame}
-use Rattle.pl_frame.specs.Seeing.{standing, Comes_to, Framed, Alike}
+use Rattle.pl_frame.specs.Seeing.{Course, standing, Comes_to, Framed, Alike}
 use Rattle.pl_frame.specs.Ordering.{HasArray}
 use Rattle.pl_frame.proofs.Values.{Framing, all_framed, own_list, and_first, and_second}
 use Rattle.pl_frame.proofs.Growth.{Grown, from_line, to_line, reaches, either_grown, second_step, within_most}
@@ -47,7 +47,7 @@ use Rattle.pl_frame.proofs.Keeping.{keeps}
 use Rattle.pl_frame.proofs.Bodies.{same_self, among_alike, Item, item_of, among_more, stmt_is, goes, fails_value, fails_put}
 
 -- a loop of the form, before which each variable that its body writes has an array or nothing, and the class of each that is new
-pub record Laid (program : Resolved) (q : Question) (env : Workspace) : Type 0 where
+pub record Laid (program : Resolved) (q : LoopQuestion) (env : Workspace) : Type 0 where
   pub at : ℕ
   pub at_is : slot_of program (body_frame q) q.index.text ≡ Some at
   pub at_within : at < length env
@@ -125,7 +125,7 @@ rest_empty (u ∷ us) vs h = absurd (cc)
 pub some_own : (i z : ℤ) → ◌≡◌ {A = List (ℕ × ℤ)} (own i (Some z)) [] → ⊥
 some_own i z e = cc
 
-module _ (program : Resolved) (q : Question) (env : Workspace) (depth : ℕ) (L : Laid program q env) where
+module _ (program : Resolved) (q : LoopQuestion) (env : Workspace) (depth : ℕ) (L : Laid program q env) where
   abbrev f : Frame
   f = body_frame q
 
@@ -259,7 +259,7 @@ module _ (program : Resolved) (q : Question) (env : Workspace) (depth : ℕ) (L 
     }
 
     frames : (o : ℕ → Option ℤ) (E W : Workspace) (BE : Between (mine o) E) (BW : Between (all_of o) W) (ei : value_at E L.at ≡ Some (number_of i)) (wi : value_at W L.at ≡ Some (number_of i)) → Framing program f q.index names i E W (alike o E W BE BW ei wi) L.at L.at_is (value_in program (below program depth))
-    frames o E W BE BW ei wi = all_framed program f q.index names i E W (alike o E W BE BW ei wi) L.at L.at_is depth
+    frames o E W BE BW ei wi = all_framed program f q.index names i E W (alike o E W BE BW ei wi) L.at L.at_is refl depth
 
     -- a value that an iteration wrote
     pub record Put (s : ℕ) (v : Option ℤ) : Type 0 where
@@ -290,10 +290,10 @@ module _ (program : Resolved) (q : Question) (env : Workspace) (depth : ℕ) (L 
     -- ## A body
 
     -- what an iteration comes to from both
-    pub record Ran (ss : List Stmt) (o : ℕ → Option ℤ) (E W one : Workspace) (t : ℕ) (c : List Choice) (r : Rules) : Type 0 where
+    pub record Ran (ss : List Stmt) (o : ℕ → Option ℤ) (E W one : Workspace) (t : ℕ) (c : List Choice) (r : Course) : Type 0 where
       pub wrote : ℕ → Option ℤ
       pub whole : Workspace
-      pub ends : (t : ℕ) (c : List Choice) (r : Rules) → (block_from program (below program depth) f ss finished failed (standing W t c r)).ending ≡ Done whole c
+      pub ends : (t : ℕ) (c : List Choice) (r : Course) → (block_from program (below program depth) f ss finished failed (standing W t c r)).ending ≡ Done whole c
       pub shows : (block_from program (below program depth) f ss finished failed (standing W t c r)).shown ≡ (block_from program (below program depth) f ss finished failed (standing E t c r)).shown
       pub here : Between (mine wrote) one
       pub there : Between (all_of wrote) whole
@@ -307,7 +307,7 @@ module _ (program : Resolved) (q : Question) (env : Workspace) (depth : ℕ) (L 
     done_same a b c d h = cc
 
     abbrev Fixed : List Stmt → (ℕ → Option ℤ) → Workspace → Workspace → Type 0
-    Fixed ss o E W = Between (mine o) E → Between (all_of o) W → value_at E L.at ≡ Some (number_of i) → value_at W L.at ≡ Some (number_of i) → (t : ℕ) (c d : List Choice) (r : Rules) (one : Workspace) → Ends_in one → (block_from program (below program depth) f ss finished failed (standing E t c r)).ending ≡ Done one d → Ran ss o E W one t c r
+    Fixed ss o E W = Between (mine o) E → Between (all_of o) W → value_at E L.at ≡ Some (number_of i) → value_at W L.at ≡ Some (number_of i) → (t : ℕ) (c d : List Choice) (r : Course) (one : Workspace) → Ends_in one → (block_from program (below program depth) f ss finished failed (standing E t c r)).ending ≡ Done one d → Ran ss o E W one t c r
 
     abbrev Fits_in : List Stmt → Type 0
     Fits_in ss = (n : Name) → is_among (written_in ss) n ≡ true → is_among names n ≡ true
@@ -327,7 +327,7 @@ module _ (program : Resolved) (q : Question) (env : Workspace) (depth : ℕ) (L 
           let no_same : same I.name.text q.index.text ≡ false = I.no_index in
           cc
 
-      run_is : (W : Workspace) (t : ℕ) (c : List Choice) (r : Rules) → block_from program (below program depth) f (s ∷ more) finished failed (standing W t c r) ≡ assignment program (below program depth) f false (Indexed I.name I.list) I.value (λ x. sequel program x (block_from program (below program depth) f more) finished failed) failed (standing W t c r)
+      run_is : (W : Workspace) (t : ℕ) (c : List Choice) (r : Course) → block_from program (below program depth) f (s ∷ more) finished failed (standing W t c r) ≡ assignment program (below program depth) f false (Indexed I.name I.list) I.value (λ x. sequel program x (block_from program (below program depth) f more) finished failed) failed (standing W t c r)
       run_is W t c r = ap (λ p. p (λ x. sequel program x (block_from program (below program depth) f more) finished failed) failed (standing W t c r)) (stmt_is program f q.index names (below program depth) s I)
 
       -- both have assigned
@@ -335,8 +335,8 @@ module _ (program : Resolved) (q : Question) (env : Workspace) (depth : ℕ) (L 
         z : ℤ
         one : Workspace
         whole : Workspace
-        one_runs : (t : ℕ) (c : List Choice) (r : Rules) → block_from program (below program depth) f (s ∷ more) finished failed (standing E t c r) ≡ before ts (block_from program (below program depth) f more finished failed (standing one t c r))
-        whole_runs : (t : ℕ) (c : List Choice) (r : Rules) → block_from program (below program depth) f (s ∷ more) finished failed (standing W t c r) ≡ before ts (block_from program (below program depth) f more finished failed (standing whole t c r))
+        one_runs : (t : ℕ) (c : List Choice) (r : Course) → block_from program (below program depth) f (s ∷ more) finished failed (standing E t c r) ≡ before ts (block_from program (below program depth) f more finished failed (standing one t c r))
+        whole_runs : (t : ℕ) (c : List Choice) (r : Course) → block_from program (below program depth) f (s ∷ more) finished failed (standing W t c r) ≡ before ts (block_from program (below program depth) f more finished failed (standing whole t c r))
         here : Between (mine (with_value o I.slot z)) one
         there : Between (all_of (with_value o I.slot z)) whole
         one_index : value_at one L.at ≡ Some (number_of i)
@@ -420,7 +420,7 @@ module _ (program : Resolved) (q : Question) (env : Workspace) (depth : ℕ) (L 
           step o E W ts v a BE BW ei wi VE VW (base I.slot) (base I.slot) (holds_base I.slot slot_written (own i (o I.slot)) n.unwritten) (holds_base I.slot slot_written (all_of o I.slot) m.unwritten) (new_as E v y.0 y.1 y.2 n.nothing_there n.nothing_before) (new_as W v y.0 y.1 y.2 m.nothing_there m.nothing_before) A
 
       -- its class is that of the array at the iteration's end
-      made_by : (E : Workspace) (v a : Value) (one : Workspace) (t : ℕ) (c d : List Choice) (r : Rules) → value_at E L.at ≡ Some (number_of i) → I.slot < length E → Ends_in one → assign_value (value_at E I.slot) (own_places i) v ≡ Ok a → (block_from program (below program depth) f more finished failed (standing (slice_set E I.slot (Some a)) t c r)).ending ≡ Done one d → Made E v
+      made_by : (E : Workspace) (v a : Value) (one : Workspace) (t : ℕ) (c d : List Choice) (r : Course) → value_at E L.at ≡ Some (number_of i) → I.slot < length E → Ends_in one → assign_value (value_at E I.slot) (own_places i) v ≡ Ok a → (block_from program (below program depth) f more finished failed (standing (slice_set E I.slot (Some a)) t c r)).ending ≡ Done one d → Made E v
       made_by E v a one t c d r ei within last A h before none =
           let K = keeps program q depth names i L.at L.at_is more behind (slice_set E I.slot (Some a)) one (set_elsewhere E I.slot L.at (Some a) slot_apart ∙ ei) t c d r h I.slot a (set_here E I.slot a within) in
           let b = last I.slot slot_written before in
@@ -431,13 +431,13 @@ module _ (program : Resolved) (q : Question) (env : Workspace) (depth : ℕ) (L 
       put_again o z j P true e Q = subst (λ (k : ℕ). Put k (with_value o I.slot z k)) (eqb-true I.slot j e) (subst (Put I.slot) (sym (this_slot o z)) P)
       put_again o z j P false e Q = subst (Put j) (sym (ap (λ (t : Bool). cond t (Some z) (o j)) e)) Q
 
-      touched_by : (o : ℕ → Option ℤ) (E W one : Workspace) (t : ℕ) (c : List Choice) (r : Rules) (z : ℤ) (R : Ran more (with_value o I.slot z) E W one t c r) → Put I.slot (Some z) → (n : Name) (j : ℕ) → slot_of program f n.text ≡ Some j → (b : Bool) → same I.name.text n.text ≡ b → (b || is_among (written_in more) n) ≡ true → Put j (R.wrote j)
+      touched_by : (o : ℕ → Option ℤ) (E W one : Workspace) (t : ℕ) (c : List Choice) (r : Course) (z : ℤ) (R : Ran more (with_value o I.slot z) E W one t c r) → Put I.slot (Some z) → (n : Name) (j : ℕ) → slot_of program f n.text ≡ Some j → (b : Bool) → same I.name.text n.text ≡ b → (b || is_among (written_in more) n) ≡ true → Put j (R.wrote j)
       touched_by o E W one t c r z R P n j is true e h =
           let slots : I.slot ≡ j = some_same I.slot j (sym I.slot_is ∙ ap (slot_of program f) (same_text I.name.text n.text (sym e)) ∙ is) in
           subst (λ (k : ℕ). Put k (R.wrote k)) slots (R.kept I.slot (subst (Put I.slot) (sym (this_slot o z)) P))
       touched_by o E W one t c r z R P n j is false e h = R.touched n j h is
 
-      joined : (o : ℕ → Option ℤ) (E W one : Workspace) (ts : List Trace) (t : ℕ) (c : List Choice) (r : Rules) (S : Stepped o E W ts) → Ran more (with_value o I.slot S.z) S.one S.whole one t c r → Ran (s ∷ more) o E W one t c r
+      joined : (o : ℕ → Option ℤ) (E W one : Workspace) (ts : List Trace) (t : ℕ) (c : List Choice) (r : Course) (S : Stepped o E W ts) → Ran more (with_value o I.slot S.z) S.one S.whole one t c r → Ran (s ∷ more) o E W one t c r
       joined o E W one ts t c r S R = record {
         wrote = R.wrote;
         whole = R.whole;
@@ -449,7 +449,7 @@ module _ (program : Resolved) (q : Question) (env : Workspace) (depth : ℕ) (L 
         kept = λ j P. R.kept j (put_again o S.z j S.put (I.slot == j) refl P);
       }
 
-      by_assign : (rest : (o : ℕ → Option ℤ) (E W : Workspace) → Fixed more o E W) (o : ℕ → Option ℤ) (E W : Workspace) (ts : List Trace) (v : Value) → (BE : Between (mine o) E) (BW : Between (all_of o) W) (ei : value_at E L.at ≡ Some (number_of i)) (wi : value_at W L.at ≡ Some (number_of i)) → Comes_to (value_in program (below program depth) f I.value) E ts (Ok v) → Comes_to (value_in program (below program depth) f I.value) W ts (Ok v) → (x : Result Value ErrKind) → assign_value (value_at E I.slot) (own_places i) v ≡ x → (t : ℕ) (c d : List Choice) (r : Rules) (one : Workspace) → Ends_in one → (block_from program (below program depth) f (s ∷ more) finished failed (standing E t c r)).ending ≡ Done one d → Ran (s ∷ more) o E W one t c r
+      by_assign : (rest : (o : ℕ → Option ℤ) (E W : Workspace) → Fixed more o E W) (o : ℕ → Option ℤ) (E W : Workspace) (ts : List Trace) (v : Value) → (BE : Between (mine o) E) (BW : Between (all_of o) W) (ei : value_at E L.at ≡ Some (number_of i)) (wi : value_at W L.at ≡ Some (number_of i)) → Comes_to (value_in program (below program depth) f I.value) E ts (Ok v) → Comes_to (value_in program (below program depth) f I.value) W ts (Ok v) → (x : Result Value ErrKind) → assign_value (value_at E I.slot) (own_places i) v ≡ x → (t : ℕ) (c d : List Choice) (r : Course) (one : Workspace) → Ends_in one → (block_from program (below program depth) f (s ∷ more) finished failed (standing E t c r)).ending ≡ Done one d → Ran (s ∷ more) o E W one t c r
       by_assign rest o E W ts v BE BW ei wi VE VW (Ok a) A t c d r one last h =
           let run = run_is E t c r ∙ goes program f q.index names (below program depth) i I.name I.list I.value I.slot I.slot_is E ts v a VE
           (own_list program f q.index names i E W (alike o E W BE BW ei wi) L.at L.at_is (value_in program (below program depth)) (frames o E W BE BW ei wi) None I.slot I.list I.own E ei) A _ failed t c r in
@@ -461,7 +461,7 @@ module _ (program : Resolved) (q : Question) (env : Workspace) (depth : ℕ) (L 
           (own_list program f q.index names i E W (alike o E W BE BW ei wi) L.at L.at_is (value_in program (below program depth)) (frames o E W BE BW ei wi) None I.slot I.list I.own E ei) A _ failed t c r in
           absurd (no_end (error_of kind I.name.place) c d one (sym (ap (λ (x : Outcome). x.ending) run) ∙ h))
 
-      by_value : (rest : (o : ℕ → Option ℤ) (E W : Workspace) → Fixed more o E W) (o : ℕ → Option ℤ) (E W : Workspace) → (BE : Between (mine o) E) (BW : Between (all_of o) W) (ei : value_at E L.at ≡ Some (number_of i)) (wi : value_at W L.at ≡ Some (number_of i)) → (P : Framed E W (value_in program (below program depth) f I.value)) (g : Result Value ScriptError) → P.gives ≡ g → (t : ℕ) (c d : List Choice) (r : Rules) (one : Workspace) → Ends_in one → (block_from program (below program depth) f (s ∷ more) finished failed (standing E t c r)).ending ≡ Done one d → Ran (s ∷ more) o E W one t c r
+      by_value : (rest : (o : ℕ → Option ℤ) (E W : Workspace) → Fixed more o E W) (o : ℕ → Option ℤ) (E W : Workspace) → (BE : Between (mine o) E) (BW : Between (all_of o) W) (ei : value_at E L.at ≡ Some (number_of i)) (wi : value_at W L.at ≡ Some (number_of i)) → (P : Framed E W (value_in program (below program depth) f I.value)) (g : Result Value ScriptError) → P.gives ≡ g → (t : ℕ) (c d : List Choice) (r : Course) (one : Workspace) → Ends_in one → (block_from program (below program depth) f (s ∷ more) finished failed (standing E t c r)).ending ≡ Done one d → Ran (s ∷ more) o E W one t c r
       by_value rest o E W BE BW ei wi P (Ok v) is t c d r one last h =
           by_assign rest o E W P.shown v BE BW ei wi (subst (λ (g : Result Value ScriptError). Comes_to (value_in program (below program depth) f I.value) E P.shown g) is P.here) (P.there v is) (assign_value (value_at E I.slot) (own_places i) v) refl t c d r one last h
       by_value rest o E W BE BW ei wi P (Err x) is t c d r one last h =

@@ -17,14 +17,14 @@ use Rattle.pl_operators.specs.Picking.{assign_value}
 use Rattle.pl_resolve.specs.declared.resolved.Resolved.{Resolved}
 use Rattle.pl_meaning.specs.declared.frame.Frame.{Frame}
 use Rattle.pl_meaning.specs.Known.{same}
-use Rattle.pl_meaning.specs.Logs.{Workspace, Question, Rules, Trace}
+use Rattle.pl_meaning.specs.Logs.{Workspace, LoopQuestion, Trace}
 use Rattle.pl_meaning.specs.Names.{names_in, slot_of}
 use Rattle.pl_meaning.specs.Running.{Done, Raised, Outcome}
 use Rattle.pl_meaning.specs.Runs.{finished, failed}
 use Rattle.pl_meaning.specs.Parts.{below, block_from, sequel, value_in, assignment}
 use Rattle.pl_meaning.specs.Forms.{is_item}
 use Rattle.pl_meaning.specs.Loops.{own_places, body_frame}
-use Rattle.pl_frame.specs.Seeing.{standing, Comes_to, Framed, Alike}
+use Rattle.pl_frame.specs.Seeing.{Course, standing, Comes_to, Framed, Alike}
 use Rattle.pl_frame.proofs.Values.{Framing, all_framed, own_list, and_first, and_second}
 use Rattle.pl_frame.proofs.Own.{class_in, keeps_class}
 use Rattle.pl_frame.proofs.Slots.{set_here, set_elsewhere, has_slot, one_name}
@@ -39,7 +39,7 @@ no_end e c d one h = cc
 pub done_same : (a b : Workspace) (c d : List Choice) → Done a c ≡ Done b d → a ≡ b
 done_same a b c d h = cc
 
-module _ (program : Resolved) (q : Question) (depth : ℕ) (names : List Name) (i : ℤ) (at : ℕ) (at_is : slot_of program (body_frame q) q.index.text ≡ Some at) where
+module _ (program : Resolved) (q : LoopQuestion) (depth : ℕ) (names : List Name) (i : ℤ) (at : ℕ) (at_is : slot_of program (body_frame q) q.index.text ≡ Some at) where
   abbrev f : Frame
   f = body_frame q
 
@@ -56,14 +56,14 @@ module _ (program : Resolved) (q : Question) (depth : ℕ) (names : List Name) (
   }
 
   pub frames : (E : Workspace) (h : value_at E at ≡ Some (number_of i)) → Framing program f q.index names i E E (itself E h) at at_is (value_in program (below program depth))
-  frames E h = all_framed program f q.index names i E E (itself E h) at at_is depth
+  frames E h = all_framed program f q.index names i E E (itself E h) at at_is refl depth
 
   -- what a variable has at the end of a value that it had
   abbrev pub Like : Workspace → ℕ → Value → Type 0
   Like one s v = (w : Value) × (value_at one s ≡ Some w) × (class_in (out-Value w) ≡ class_in (out-Value v))
 
   abbrev pub Keeps : List Stmt → Type 0
-  Keeps ss = (E one : Workspace) → value_at E at ≡ Some (number_of i) → (t : ℕ) (c d : List Choice) (r : Rules) → (block_from program (below program depth) f ss finished failed (standing E t c r)).ending ≡ Done one d → (s : ℕ) (v : Value) → value_at E s ≡ Some v → Like one s v
+  Keeps ss = (E one : Workspace) → value_at E at ≡ Some (number_of i) → (t : ℕ) (c d : List Choice) (r : Course) → (block_from program (below program depth) f ss finished failed (standing E t c r)).ending ≡ Done one d → (s : ℕ) (v : Value) → value_at E s ≡ Some v → Like one s v
 
   module _ (s : Stmt) (more : List Stmt) (I : Item program f q.index names s) where
     pub apart : I.slot ≡ at → ⊥
@@ -73,7 +73,7 @@ module _ (program : Resolved) (q : Question) (depth : ℕ) (names : List Name) (
         let no_same : same I.name.text q.index.text ≡ false = I.no_index in
         cc
 
-    pub run_is : (W : Workspace) (t : ℕ) (c : List Choice) (r : Rules) → block_from program (below program depth) f (s ∷ more) finished failed (standing W t c r) ≡ assignment program (below program depth) f false (Indexed I.name I.list) I.value (λ x. sequel program x (block_from program (below program depth) f more) finished failed) failed (standing W t c r)
+    pub run_is : (W : Workspace) (t : ℕ) (c : List Choice) (r : Course) → block_from program (below program depth) f (s ∷ more) finished failed (standing W t c r) ≡ assignment program (below program depth) f false (Indexed I.name I.list) I.value (λ x. sequel program x (block_from program (below program depth) f more) finished failed) failed (standing W t c r)
     run_is W t c r = ap (λ p. p (λ x. sequel program x (block_from program (below program depth) f more) finished failed) failed (standing W t c r)) (stmt_is program f q.index names (below program depth) s I)
 
     by_slot : (E one : Workspace) (a v : Value) → assign_value (value_at E I.slot) (own_places i) v ≡ Ok a → ((j : ℕ) (u : Value) → value_at (slice_set E I.slot (Some a)) j ≡ Some u → Like one j u) → (j : ℕ) (b : Bool) → (I.slot == j) ≡ b → (u : Value) → value_at E j ≡ Some u → Like one j u
@@ -83,7 +83,7 @@ module _ (program : Resolved) (q : Question) (depth : ℕ) (names : List Name) (
         (R.0, R.1, R.2 ∙ keeps_class u v a i (sym (ap (λ (x : Option Value). assign_value x (own_places i) v) here) ∙ A))
     by_slot E one a v A rest j false e u held = rest j u (set_elsewhere E I.slot j (Some a) (eqb-false I.slot j e) ∙ held)
 
-    by_assign : (rest : Keeps more) (E one : Workspace) (ei : value_at E at ≡ Some (number_of i)) (ts : List Trace) (v : Value) → Comes_to (value_in program (below program depth) f I.value) E ts (Ok v) → (x : Result Value ErrKind) → assign_value (value_at E I.slot) (own_places i) v ≡ x → (t : ℕ) (c d : List Choice) (r : Rules) → (block_from program (below program depth) f (s ∷ more) finished failed (standing E t c r)).ending ≡ Done one d → (j : ℕ) (u : Value) → value_at E j ≡ Some u → Like one j u
+    by_assign : (rest : Keeps more) (E one : Workspace) (ei : value_at E at ≡ Some (number_of i)) (ts : List Trace) (v : Value) → Comes_to (value_in program (below program depth) f I.value) E ts (Ok v) → (x : Result Value ErrKind) → assign_value (value_at E I.slot) (own_places i) v ≡ x → (t : ℕ) (c d : List Choice) (r : Course) → (block_from program (below program depth) f (s ∷ more) finished failed (standing E t c r)).ending ≡ Done one d → (j : ℕ) (u : Value) → value_at E j ≡ Some u → Like one j u
     by_assign rest E one ei ts v V (Ok a) A t c d r h j u held =
         let run = run_is E t c r ∙ goes program f q.index names (below program depth) i I.name I.list I.value I.slot I.slot_is E ts v a V
         (own_list program f q.index names i E E (itself E ei) at at_is (value_in program (below program depth)) (frames E ei) None I.slot I.list I.own E ei) A _ failed t c r in
@@ -93,7 +93,7 @@ module _ (program : Resolved) (q : Question) (depth : ℕ) (names : List Name) (
         (own_list program f q.index names i E E (itself E ei) at at_is (value_in program (below program depth)) (frames E ei) None I.slot I.list I.own E ei) A _ failed t c r in
         absurd (no_end (error_of kind I.name.place) c d one (sym (ap (λ (x : Outcome). x.ending) run) ∙ h))
 
-    by_value : (rest : Keeps more) (E one : Workspace) (ei : value_at E at ≡ Some (number_of i)) (P : Framed E E (value_in program (below program depth) f I.value)) (g : Result Value ScriptError) → P.gives ≡ g → (t : ℕ) (c d : List Choice) (r : Rules) → (block_from program (below program depth) f (s ∷ more) finished failed (standing E t c r)).ending ≡ Done one d → (j : ℕ) (u : Value) → value_at E j ≡ Some u → Like one j u
+    by_value : (rest : Keeps more) (E one : Workspace) (ei : value_at E at ≡ Some (number_of i)) (P : Framed E E (value_in program (below program depth) f I.value)) (g : Result Value ScriptError) → P.gives ≡ g → (t : ℕ) (c d : List Choice) (r : Course) → (block_from program (below program depth) f (s ∷ more) finished failed (standing E t c r)).ending ≡ Done one d → (j : ℕ) (u : Value) → value_at E j ≡ Some u → Like one j u
     by_value rest E one ei P (Ok v) is t c d r h j u held =
         by_assign rest E one ei P.shown v (P.there v is) (assign_value (value_at E I.slot) (own_places i) v) refl t c d r h j u held
     by_value rest E one ei P (Err x) is t c d r h j u held =

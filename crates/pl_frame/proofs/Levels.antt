@@ -8,13 +8,14 @@ use Rattle.pl_operators.specs.Bracketing.{number_of}
 use Rattle.pl_resolve.specs.declared.resolved.Resolved.{Resolved}
 use Rattle.pl_meaning.specs.declared.event.Clash.{Clash}
 use Rattle.pl_meaning.specs.declared.event.Output.{Output}
-use Rattle.pl_meaning.specs.Logs.{Workspace, Question}
+use Rattle.pl_meaning.specs.Logs.{Workspace, LoopQuestion}
 use Rattle.pl_meaning.specs.Names.{slot_of}
 use Rattle.pl_meaning.specs.Running.{Outcome}
 use Rattle.pl_meaning.specs.Runs.{finished, failed}
 use Rattle.pl_meaning.specs.Parts.{written_in}
 use Rattle.pl_meaning.specs.Forms.{is_item}
-use Rattle.pl_meaning.specs.Loops.{Write, body_frame, no_rules, Iter, end_of, text_of, wrote, merged, output_of, ends_of, all_done, texts, writes, after, outputs}
+use Rattle.pl_meaning.specs.Loops.{Write, body_frame, Iter, end_of, text_of, wrote, merged, output_of, ends_of, all_done, texts, writes, after, outputs}
+use Rattle.pl_frame.specs.Seeing.{no_course}
 use Rattle.pl_frame.specs.Ordering.{Each}
 use Rattle.pl_frame.proofs.Values.{and_first, and_second}
 use Rattle.pl_frame.proofs.Slots.{set_here}
@@ -23,18 +24,18 @@ use Rattle.pl_frame.proofs.Fresh.{some_end}
 use Rattle.pl_frame.proofs.Anywhere.{Leads, leads}
 use Rattle.pl_frame.proofs.PassByPass.{iter_is}
 
-module _ (program : Resolved) (q : Question) (env : Workspace) (turns : ℕ) (at : ℕ) (at_is : slot_of program (body_frame q) q.index.text ≡ Some at) (within : at < length env) (items : list_all (is_item program (body_frame q) q.index (written_in q.body)) q.body ≡ true) where
+module _ (program : Resolved) (q : LoopQuestion) (env : Workspace) (turns : ℕ) (at : ℕ) (at_is : slot_of program (body_frame q) q.index.text ≡ Some at) (within : at < length env) (items : list_all (is_item program (body_frame q) q.index (written_in q.body)) q.body ≡ true) where
   deeper : (m n : ℕ) → m ≤ n → (i : ℤ) → is_some (ends_of program turns m q env i) ≡ true → Iter program turns m q env i ≡ Iter program turns n q env i
   deeper m n le i h =
       let e = some_end (ends_of program turns m q env i) h in
       let d = done_of (Iter program turns m q env i).ending e.0 e.1 in
       let begin : Workspace = slice_set env at (Some (number_of i)) in
-      let R : Leads program q m (written_in q.body) i at at_is n le 0 0 q.body begin e.0 =
-      leads program q m (written_in q.body) i at at_is n le 0 0 q.body items begin e.0 (set_here env at (number_of i) within) turns [] d.0 no_rules (sym (ap (λ (x : Outcome). x.ending) (iter_is program q turns m at at_is items 0 0 env i)) ∙ d.1) in
-      iter_is program q turns m at at_is items 0 0 env i
-      ∙ R.by_itself finished failed turns [] no_rules
-      ∙ sym (R.goes_on finished failed turns [] no_rules)
-      ∙ sym (iter_is program q turns n at at_is items 0 0 env i)
+      let R : Leads program q m (written_in q.body) i at at_is n le false 0 0 q.body begin e.0 =
+      leads program q m (written_in q.body) i at at_is n le false 0 0 q.body items begin e.0 (set_here env at (number_of i) within) turns [] d.0 no_course (sym (ap (λ (x : Outcome). x.ending) (iter_is program q turns m at at_is items false 0 0 env i)) ∙ d.1) in
+      iter_is program q turns m at at_is items false 0 0 env i
+      ∙ R.by_itself finished failed turns [] no_course
+      ∙ sym (R.goes_on finished failed turns [] no_course)
+      ∙ sym (iter_is program q turns n at at_is items false 0 0 env i)
 
   module _ (m n : ℕ) where
     abbrev pub Same : ℤ → Type 0

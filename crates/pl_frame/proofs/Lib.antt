@@ -1,5 +1,6 @@
 pub mod Framed
 pub mod Layers
+pub mod Doors
 pub mod Functions
 pub mod Values
 pub mod Growth

@@ -24,7 +24,7 @@ use Rattle.pl_operators.specs.Picking.{assign_value}
 use Rattle.pl_resolve.specs.declared.resolved.Resolved.{Resolved}
 use Rattle.pl_meaning.specs.declared.event.Output.{Output}
 use Rattle.pl_meaning.specs.Known.{same}
-use Rattle.pl_meaning.specs.Logs.{Workspace, Question}
+use Rattle.pl_meaning.specs.Logs.{Workspace, LoopQuestion}
 use Rattle.pl_meaning.specs.Names.{slot_of}
 use Rattle.pl_meaning.specs.Parts.{written_in}
 use Rattle.pl_meaning.specs.Forms.{is_among}
@@ -121,7 +121,7 @@ no_cells x xs e = cc
 no_top : (a b : ℕ) → max (a + 1) b ≡ 0 → ⊥
 no_top a b e = absurd (omega arith)
 
-module _ (program : Resolved) (q : Question) (env : Workspace) (turns depth : ℕ) (L : Laid program q env) where
+module _ (program : Resolved) (q : LoopQuestion) (env : Workspace) (turns depth : ℕ) (L : Laid program q env) where
   abbrev Target : ℕ → Type 0
   Target = Written program q env depth L
 

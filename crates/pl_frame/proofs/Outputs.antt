@@ -10,7 +10,7 @@ use Rattle.pl_values.specs.Workspaces.{value_at}
 use Rattle.pl_resolve.specs.declared.resolved.Resolved.{Resolved}
 use Rattle.pl_meaning.specs.declared.event.Output.{Output}
 use Rattle.pl_meaning.specs.declared.frame.Frame.{Frame}
-use Rattle.pl_meaning.specs.Logs.{Workspace, Question}
+use Rattle.pl_meaning.specs.Logs.{Workspace, LoopQuestion}
 use Rattle.pl_meaning.specs.Names.{slot_of}
 use Rattle.pl_meaning.specs.Parts.{written_in}
 use Rattle.pl_meaning.specs.Loops.{body_frame, with_one, slots_from, written_slots}
@@ -57,7 +57,7 @@ once_from : (program : Resolved) (f : Frame) (done : List ℕ) (ns : List Name) 
 once_from program f done [] once = once
 once_from program f done (n ∷ ns) once = once_from program f (with_one done (slot_of program f n.text)) ns (once_with done (slot_of program f n.text) once)
 
-pub written_once : (program : Resolved) (q : Question) → Once (written_slots program q)
+pub written_once : (program : Resolved) (q : LoopQuestion) → Once (written_slots program q)
 written_once program q = once_from program (body_frame q) [] (written_in q.body) tt
 
 outputs_apart : (end : Workspace) (s : ℕ) (slots : List ℕ) → list_any (λ (x : ℕ). x == s) slots ≡ false → outputs_in (slice_set end s None) slots ≡ outputs_in end slots

@@ -1,7 +1,7 @@
 -- An ordinary loop over the row of a range goes pass by pass as the plain run of a loop over workers.
 use Rattle.std.specs.Prelude.{◌+ℤ◌, map, slice_set}
 use Rattle.std.specs.List.{list_all}
-use Rattle.std.proofs.Common.{◌≡◌, ◌∙◌, ℕ, zero, suc, ◌+◌, ◌<◌, ℤ, pos, List, [], ◌∷◌, ◌++◌, length, true, Option, Some, None, arith, refl, sym, ap, ◌≤◌}
+use Rattle.std.proofs.Common.{◌≡◌, ◌∙◌, ℕ, zero, suc, ◌+◌, ◌<◌, ℤ, pos, List, [], ◌∷◌, ◌++◌, length, Bool, true, Option, Some, None, arith, refl, sym, ap, ◌≤◌}
 use Rattle.std.proofs.lemmas.Int.{ints}
 use Rattle.std.proofs.lemmas.List.{append-nil, length-set, map-append}
 use Rattle.pl_base.specs.declared.choice.Choice.{Choice}
@@ -15,14 +15,14 @@ use Rattle.pl_meaning.specs.declared.frame.Frame.{Frame}
 use Rattle.pl_meaning.specs.declared.frame.Exit.{Exit}
 use Rattle.pl_meaning.specs.declared.frame.Exit.TheVariants.{Onward}
 use Rattle.pl_meaning.specs.Accesses.{take_turn, write}
-use Rattle.pl_meaning.specs.Logs.{Workspace, Question, Rules, Trace, Byte}
+use Rattle.pl_meaning.specs.Logs.{Workspace, LoopQuestion, Trace, Byte}
 use Rattle.pl_meaning.specs.Names.{slot_of}
 use Rattle.pl_meaning.specs.Running.{Rest, Outcome, before}
 use Rattle.pl_meaning.specs.Runs.{finished, failed}
 use Rattle.pl_meaning.specs.Parts.{below, block_in, block_from, level_at, with_slot, written_in, after_pass, columns_from}
 use Rattle.pl_meaning.specs.Forms.{is_item}
-use Rattle.pl_meaning.specs.Loops.{body_frame, no_rules, Iter, end_of, indices, plain, plain_on, text_of}
-use Rattle.pl_frame.specs.Seeing.{standing}
+use Rattle.pl_meaning.specs.Loops.{body_frame, Iter, end_of, indices, plain, plain_on, text_of}
+use Rattle.pl_frame.specs.Seeing.{Course, no_course, standing}
 use Rattle.pl_frame.specs.Ordering.{texts_on, plain_texts}
 use Rattle.pl_frame.specs.Ordinary.{statement_frame}
 use Rattle.pl_frame.proofs.Framed.{shown_twice}
@@ -48,25 +48,25 @@ index_next : (n : ℕ) (i : ℤ) → index_behind n (i +ℤ pos 1) (Some (number
 index_next zero i = let e : i ≡ i +ℤ pos 0 = omega (arith, ints) in ap (λ (z : ℤ). Some (number_of z)) e
 index_next (suc n) i = let e : ((i +ℤ pos 1) +ℤ pos n) ≡ i +ℤ pos (suc n) = omega (arith, ints) in ap (λ (z : ℤ). Some (number_of z)) e
 
-module _ (program : Resolved) (q : Question) (turns depth : ℕ) (at : ℕ) (at_is : slot_of program (body_frame q) q.index.text ≡ Some at) (items : list_all (is_item program (body_frame q) q.index (written_in q.body)) q.body ≡ true) (given wanted : ℕ) where
+module _ (program : Resolved) (q : LoopQuestion) (turns depth : ℕ) (at : ℕ) (at_is : slot_of program (body_frame q) q.index.text ≡ Some at) (items : list_all (is_item program (body_frame q) q.index (written_in q.body)) q.body ≡ true) (client : Bool) (given wanted : ℕ) where
   abbrev f : Frame
   f = body_frame q
 
   -- the frame of the statement `for`
   abbrev g : Frame
-  g = statement_frame q given wanted
+  g = statement_frame q client given wanted
 
   abbrev begin : Workspace → ℤ → Workspace
   begin W i = slice_set W at (Some (number_of i))
 
-  pub iter_is : (W : Workspace) (i : ℤ) → Iter program turns depth q W i ≡ block_from program (below program depth) f q.body finished failed (standing (begin W i) turns [] no_rules)
+  pub iter_is : (W : Workspace) (i : ℤ) → Iter program turns depth q W i ≡ block_from program (below program depth) f q.body finished failed (standing (begin W i) turns [] no_course)
   unfolding Iter block_in
-  iter_is W i = ap (λ (o : Option ℕ). block_from program (below program depth) f q.body finished failed (standing (with_slot W o (number_of i)) turns [] no_rules)) at_is
+  iter_is W i = ap (λ (o : Option ℕ). block_from program (below program depth) f q.body finished failed (standing (with_slot W o (number_of i)) turns [] no_course)) at_is
 
   -- ## One pass
 
   record Led (i : ℤ) (W one : Workspace) : Type 0 where
-    goes_on : (k : Exit → Rest) (h : ScriptError → Rest) (t : ℕ) (c : List Choice) (r : Rules) → block_from program (below program depth) g q.body k h (standing (begin W i) t c r) ≡ before (map Byte (text_of (Iter program turns depth q W i).shown)) (k Onward (standing one t c r))
+    goes_on : (k : Exit → Rest) (h : ScriptError → Rest) (t : ℕ) (c : List Choice) (r : Course) → block_from program (below program depth) g q.body k h (standing (begin W i) t c r) ≡ before (map Byte (text_of (Iter program turns depth q W i).shown)) (k Onward (standing one t c r))
     index : value_at one at ≡ Some (number_of i)
     long : length one ≡ length W
 
@@ -74,9 +74,9 @@ module _ (program : Resolved) (q : Question) (turns depth : ℕ) (at : ℕ) (at_
   led i W one within ends =
       let d = done_of (Iter program turns depth q W i).ending one ends in
       let same_depth : depth ≤ depth = omega arith in
-      let R : Leads program q depth (written_in q.body) i at at_is depth same_depth given wanted q.body (begin W i) one =
-      leads program q depth (written_in q.body) i at at_is depth same_depth given wanted q.body items (begin W i) one (set_here W at (number_of i) within) turns [] d.0 no_rules (sym (ap (λ (x : Outcome). x.ending) (iter_is W i)) ∙ d.1) in
-      let iter : Iter program turns depth q W i ≡ before R.shown (finished Onward (standing one turns [] no_rules)) = iter_is W i ∙ R.by_itself finished failed turns [] no_rules in
+      let R : Leads program q depth (written_in q.body) i at at_is depth same_depth client given wanted q.body (begin W i) one =
+      leads program q depth (written_in q.body) i at at_is depth same_depth client given wanted q.body items (begin W i) one (set_here W at (number_of i) within) turns [] d.0 no_course (sym (ap (λ (x : Outcome). x.ending) (iter_is W i)) ∙ d.1) in
+      let iter : Iter program turns depth q W i ≡ before R.shown (finished Onward (standing one turns [] no_course)) = iter_is W i ∙ R.by_itself finished failed turns [] no_course in
       let shows : R.shown ≡ map Byte (text_of (Iter program turns depth q W i).shown) = sym (append-nil R.shown) ∙ sym (ap (λ (x : Outcome). x.shown) iter) ∙ all_bytes (Iter program turns depth q W i).shown in
       record {
         goes_on = λ k h t c r. R.goes_on k h t c r ∙ ap (λ (ts : List Trace). before ts (k Onward (standing one t c r))) shows;
@@ -93,12 +93,12 @@ module _ (program : Resolved) (q : Question) (turns depth : ℕ) (at : ℕ) (at_
   passing done n place k h = columns_from program (level_at program (below program depth)) g place at (row_of q.first q.count) q.body done n k h
 
   pub record Taken (n done : ℕ) (i : ℤ) (W end : Workspace) : Type 0 where
-    pub goes_on : (place : Place) (k : Exit → Rest) (h : ScriptError → Rest) (left : ℕ) (c : List Choice) (r : Rules) → passing done n place k h (standing W (n + left) c r) ≡ before (told (indices i n) W) (k Onward (standing end left c r))
+    pub goes_on : (place : Place) (k : Exit → Rest) (h : ScriptError → Rest) (left : ℕ) (c : List Choice) (r : Course) → passing done n place k h (standing W (n + left) c r) ≡ before (told (indices i n) W) (k Onward (standing end left c r))
     pub index : value_at end at ≡ index_behind n i (value_at W at)
     pub long : length end ≡ length W
 
   -- a turn, the index, and then the body
-  begins : (n done : ℕ) (i : ℤ) → i ≡ q.first +ℤ pos done → done < q.count → (W : Workspace) (place : Place) (k : Exit → Rest) (h : ScriptError → Rest) (t left : ℕ) → t ≡ suc left → (c : List Choice) (r : Rules) → passing done (suc n) place k h (standing W t c r) ≡ block_from program (below program depth) g q.body (λ x. after_pass program x (columns_from program (level_at program (below program depth)) g place at (row_of q.first q.count) q.body (done + 1) n) k h) h (standing (begin W i) left c r)
+  begins : (n done : ℕ) (i : ℤ) → i ≡ q.first +ℤ pos done → done < q.count → (W : Workspace) (place : Place) (k : Exit → Rest) (h : ScriptError → Rest) (t left : ℕ) → t ≡ suc left → (c : List Choice) (r : Course) → passing done (suc n) place k h (standing W t c r) ≡ block_from program (below program depth) g q.body (λ x. after_pass program x (columns_from program (level_at program (below program depth)) g place at (row_of q.first q.count) q.body (done + 1) n) k h) h (standing (begin W i) left c r)
   unfolding take_turn write block_in
   begins n done i is within W place k h t left turn c r =
       ap (λ (u : ℕ). passing done (suc n) place k h (standing W u c r)) turn

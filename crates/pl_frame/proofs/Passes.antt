@@ -17,14 +17,14 @@ use Rattle.pl_operators.specs.Bracketing.{number_of}
 use Rattle.pl_resolve.specs.declared.resolved.Resolved.{Resolved}
 use Rattle.pl_meaning.specs.declared.frame.Frame.{Frame}
 use Rattle.pl_meaning.specs.Known.{same}
-use Rattle.pl_meaning.specs.Logs.{Workspace, Question, Rules, Trace, Byte}
+use Rattle.pl_meaning.specs.Logs.{Workspace, LoopQuestion, Trace, Byte}
 use Rattle.pl_meaning.specs.Names.{slot_of}
 use Rattle.pl_meaning.specs.Running.{Done, Outcome, before}
 use Rattle.pl_meaning.specs.Runs.{finished, failed}
 use Rattle.pl_meaning.specs.Parts.{below, block_from, written_by, written_in}
 use Rattle.pl_meaning.specs.Forms.{is_among}
-use Rattle.pl_meaning.specs.Loops.{body_frame, no_rules, start_of, Iter, end_of, text_of}
-use Rattle.pl_frame.specs.Seeing.{standing}
+use Rattle.pl_meaning.specs.Loops.{body_frame, start_of, Iter, end_of, text_of}
+use Rattle.pl_frame.specs.Seeing.{Course, no_course, standing}
 use Rattle.pl_frame.specs.Rising.{Assigns, Passing, Pass}
 use Rattle.pl_frame.proofs.Framed.{shown_twice}
 use Rattle.pl_frame.proofs.Assigning.{last_of, top}
@@ -57,7 +57,7 @@ pub text_of-append : (a b : List Trace) → text_of (a ++ b) ≡ text_of a ++ te
 text_of-append [] b = refl
 text_of-append (Byte x ∷ a) b = ap (λ (t : List ℕ). x ∷ t) (text_of-append a b)
 
-module _ (program : Resolved) (q : Question) (env : Workspace) (turns depth : ℕ) (L : Laid program q env) (k : ℕ → Option Class) (agrees : (s : ℕ) (c : Class) → Some c ≡ k s → c ≡ L.classes s) where
+module _ (program : Resolved) (q : LoopQuestion) (env : Workspace) (turns depth : ℕ) (L : Laid program q env) (k : ℕ → Option Class) (agrees : (s : ℕ) (c : Class) → Some c ≡ k s → c ≡ L.classes s) where
   abbrev f : Frame
   f = body_frame q
 
@@ -92,7 +92,7 @@ module _ (program : Resolved) (q : Question) (env : Workspace) (turns depth : �
       one : Workspace
       shown : List Trace
       text_is : text ≡ told ++ text_of shown
-      runs : (t : ℕ) (c : List Choice) (r : Rules) → block_from program (below program depth) f q.body finished failed (standing begin t c r) ≡ before shown (block_from program (below program depth) f (drop n q.body) finished failed (standing one t c r))
+      runs : (t : ℕ) (c : List Choice) (r : Course) → block_from program (below program depth) f q.body finished failed (standing begin t c r) ≡ before shown (block_from program (below program depth) f (drop n q.body) finished failed (standing one t c r))
       here : Mine wrote one
       there : All_of wrote W
       one_index : value_at one L.at ≡ Some (number_of i)
@@ -176,8 +176,8 @@ module _ (program : Resolved) (q : Question) (env : Workspace) (turns depth : �
       iter : Iter program turns depth q env i ≡ before H.shown (record { shown = []; ending = Done H.one [] })
       iter =
           iter_is program q env turns depth L env i
-          ∙ H.runs turns [] no_rules
-          ∙ ap (λ (ss : List Stmt). before H.shown (block_from program (below program depth) f ss finished failed (standing H.one turns [] no_rules))) (drop_whole q.body)
+          ∙ H.runs turns [] no_course
+          ∙ ap (λ (ss : List Stmt). before H.shown (block_from program (below program depth) f ss finished failed (standing H.one turns [] no_course))) (drop_whole q.body)
 
       ending : (Iter program turns depth q env i).ending ≡ Done H.one []
       ending = ap (λ (x : Outcome). x.ending) iter

@@ -16,7 +16,7 @@ use Rattle.pl_operators.specs.Bracketing.{number_of}
 use Rattle.pl_resolve.specs.declared.resolved.Resolved.{Resolved}
 use Rattle.pl_meaning.specs.declared.frame.Frame.{Frame}
 use Rattle.pl_meaning.specs.Known.{same}
-use Rattle.pl_meaning.specs.Logs.{Workspace, Question, Trace, grown}
+use Rattle.pl_meaning.specs.Logs.{Workspace, LoopQuestion, Trace, grown}
 use Rattle.pl_meaning.specs.Names.{slot_of}
 use Rattle.pl_meaning.specs.Parts.{below, value_in, with_slot, written_in}
 use Rattle.pl_meaning.specs.Promises.{At, Went}
@@ -66,12 +66,12 @@ each_at p (y ∷ xs) h (suc n) x e = each_at p xs (and_second (p y) (list_all p 
 
 -- ## Before the first pass
 
-pub ready_slots : (program : Resolved) (q : Question) (env : Workspace) → Each (λ (s : ℕ). HasArray env s ⊎ IsNew env s) (written_slots program q) → IsReady program q env
+pub ready_slots : (program : Resolved) (q : LoopQuestion) (env : Workspace) → Each (λ (s : ℕ). HasArray env s ⊎ IsNew env s) (written_slots program q) → IsReady program q env
 ready_slots program q env all n slot among is = each_any program q env 0 0 (λ (s : ℕ). HasArray env s ⊎ IsNew env s) (written_slots program q) slot all (all_slots program q env 0 0 [] (written_in q.body) n slot among is)
 
 -- ## On the way
 
-module _ (program : Resolved) (depth : ℕ) (q : Question) (env : Workspace) where
+module _ (program : Resolved) (depth : ℕ) (q : LoopQuestion) (env : Workspace) where
   abbrev f : Frame
   f = body_frame q
 
@@ -135,7 +135,7 @@ module _ (program : Resolved) (depth : ℕ) (q : Question) (env : Workspace) whe
   -- a statement's expression that went on with a value
   pub went_in_pass : is_form program f q.index q.body ≡ true → HasSlot program q env → (k : ℕ) (i : ℤ) (before : Workspace) (told : List ℕ) → Risen program depth q env k before told → (n : ℕ) (now : Workspace) (first text : List ℕ) → Passing program depth q env i (start_of program q before i) first n now text
       → (s : Stmt) → slice_get q.body n ≡ Some s → (name : Name) (list : List Expr) (expr : Expr) → out-StmtKind (out-Stmt s).kind ≡ StmtKind-F.Assign (Indexed name list) expr → (old new : At) (v : Value) → old.env ≡ now → Went (value_in program (below program depth) f expr) old v new
-      → (shown : List Trace) × Comes_to (value_in program (below program depth) f expr) now shown (Ok v) × (new.env ≡ now) × (new.turns ≡ old.turns) × (length new.log.given ≡ length old.log.given) × (new.log.shown ≡ grown old.log.shown shown)
+      → (shown : List Trace) × Comes_to (value_in program (below program depth) f expr) now shown (Ok v) × (new.env ≡ now) × (new.turns ≡ old.turns) × (length new.log.given ≡ length old.log.given) × (new.log.shown ≡ grown old.log.shown shown) × (new.calls ≡ old.calls) × (new.log.rules.kept ≡ old.log.rules.kept)
   went_in_pass form slots k i before told R n now first text P s is name list expr kind old new v here went =
       let at = some_slot (slot_of program f q.index.text) (and_first (is_some (slot_of program f q.index.text)) _ form) in
       let items : Items = and_second (is_some (slot_of program f q.index.text)) _ form in
@@ -144,5 +144,5 @@ module _ (program : Resolved) (depth : ℕ) (q : Question) (env : Workspace) whe
       let all : is_item_at program f q.index (written_in q.body) (out-Stmt s).show (StmtKind-F.Assign (Indexed name list) expr) ≡ true = sym (ap (is_item_at program f q.index (written_in q.body) (out-Stmt s).show) kind) ∙ item in
       let two = and_second (is_some (slot_of program f name.text)) _ (and_second (not (out-Stmt s).show) _ all) in
       let fits : (read_of program f q.index (written_in q.body) expr).fits ≡ true = and_second (is_own_place program f q.index (written_in q.body) list) _ (and_second (not (same name.text q.index.text)) _ two) in
-      let w = what_went program f q.index (written_in q.body) i at.0 depth expr old new v at.1 (ap (λ (W : Workspace). value_at W at.0) here ∙ index) fits went in
-      (w.0, subst (λ (W : Workspace). Comes_to (value_in program (below program depth) f expr) W w.0 (Ok v)) here w.1, w.2 ∙ here, w.3, w.4, w.5)
+      let w = what_went program f q.index (written_in q.body) i at.0 depth expr old new v refl at.1 (ap (λ (W : Workspace). value_at W at.0) here ∙ index) fits went in
+      (w.0, subst (λ (W : Workspace). Comes_to (value_in program (below program depth) f expr) W w.0 (Ok v)) here w.1, w.2 ∙ here, w.3, w.4, w.5, w.6, w.7)

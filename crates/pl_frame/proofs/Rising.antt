@@ -14,7 +14,7 @@ use Rattle.pl_values.specs.declared.value.Value.{Value}
 use Rattle.pl_values.specs.Workspaces.{value_at}
 use Rattle.pl_resolve.specs.declared.resolved.Resolved.{Resolved}
 use Rattle.pl_meaning.specs.declared.event.Output.{Output}
-use Rattle.pl_meaning.specs.Logs.{Workspace, Question}
+use Rattle.pl_meaning.specs.Logs.{Workspace, LoopQuestion}
 use Rattle.pl_meaning.specs.Names.{slot_of}
 use Rattle.pl_meaning.specs.Parts.{written_in}
 use Rattle.pl_meaning.specs.Forms.{is_item}
@@ -52,7 +52,7 @@ abbrev class_or : Option Class → Class
 class_or None = Int
 class_or (Some c) = c
 
-module _ (program : Resolved) (q : Question) (env : Workspace) (turns depth : ℕ) (L : Laid program q env) where
+module _ (program : Resolved) (q : LoopQuestion) (env : Workspace) (turns depth : ℕ) (L : Laid program q env) where
   abbrev Target : ℕ → Type 0
   Target = Written program q env depth L
 

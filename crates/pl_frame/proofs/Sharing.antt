@@ -24,13 +24,13 @@ use Rattle.pl_operators.specs.Bracketing.{number_of}
 use Rattle.pl_operators.specs.Picking.{select_value, assign_value}
 use Rattle.pl_resolve.specs.declared.resolved.Resolved.{Resolved}
 use Rattle.pl_meaning.specs.declared.frame.Frame.{Frame}
-use Rattle.pl_meaning.specs.Logs.{Workspace, Question, Rules, Trace}
+use Rattle.pl_meaning.specs.Logs.{Workspace, LoopQuestion, Trace}
 use Rattle.pl_meaning.specs.Running.{before}
 use Rattle.pl_meaning.specs.Runs.{finished, failed}
 use Rattle.pl_meaning.specs.Parts.{below, block_from, written_in, value_in}
 use Rattle.pl_meaning.specs.Forms.{read_of}
 use Rattle.pl_meaning.specs.Loops.{own_places, body_frame}
-use Rattle.pl_frame.specs.Seeing.{standing, Comes_to, Framed, Alike}
+use Rattle.pl_frame.specs.Seeing.{Course, standing, Comes_to, Framed, Alike}
 use Rattle.pl_frame.proofs.Values.{all_framed, own_list}
 use Rattle.pl_frame.proofs.Growth.{size, Grown, from_line, to_line, reaches, in_one, second_step, within_most}
 use Rattle.pl_frame.proofs.Assigning.{tip, Converts, Succeeded, succeeds, last_of, top, Holding, last_of-append, top-append, holds_more}
@@ -61,7 +61,7 @@ not_grown s t n r (Grown.stays h e) l m = subst (λ (q : Shape). n ≤ size q) e
 not_grown s t n r (Grown.row h k lie e) l m = let n_in : n ≤ size (row_of t) = subst (λ (q : Shape). n ≤ size q) e m in absurd (omega arith)
 not_grown s t n r (Grown.column h k one up e) l m = let n_in : n ≤ size (column_of t) = subst (λ (q : Shape). n ≤ size q) e m in absurd (omega arith)
 
-module _ (program : Resolved) (q : Question) (env : Workspace) (depth : ℕ) (L : Laid program q env) (i : ℤ) (vs : ℕ → List (ℕ × ℤ)) (rises : (s : ℕ) → Written program q env depth L s → top (vs s) ≤ place_of i) where
+module _ (program : Resolved) (q : LoopQuestion) (env : Workspace) (depth : ℕ) (L : Laid program q env) (i : ℤ) (vs : ℕ → List (ℕ × ℤ)) (rises : (s : ℕ) → Written program q env depth L s → top (vs s) ≤ place_of i) where
   abbrev f : Frame
   f = body_frame q
 
@@ -146,7 +146,7 @@ module _ (program : Resolved) (q : Question) (env : Workspace) (depth : ℕ) (L 
   -- a value by itself is the value on the one workspace
   pub comes_alone : (o : ℕ → Option ℤ) (E W : Workspace) → Amid (mine o) E → Amid (all_of o) W → value_at E L.at ≡ Some (number_of i) → value_at W L.at ≡ Some (number_of i) → (e : Expr) → (read_of program f q.index names e).fits ≡ true → (ts : List Trace) (v : Value) → Comes_to (value_in program (below program depth) f e) W ts (Ok v) → Comes_to (value_in program (below program depth) f e) E ts (Ok v)
   comes_alone o E W BE BW ei wi e fits ts v C =
-      let P : Framed W E (value_in program (below program depth) f e) = (all_framed program f q.index names i W E (alike_back o E W BE BW ei wi) L.at L.at_is depth).only_reads None tt e fits in
+      let P : Framed W E (value_in program (below program depth) f e) = (all_framed program f q.index names i W E (alike_back o E W BE BW ei wi) L.at L.at_is refl depth).only_reads None tt e fits in
       let one = comes_once (value_in program (below program depth) f e) W ts P.shown v P.gives C P.here in
       subst (λ (us : List Trace). Comes_to (value_in program (below program depth) f e) E us (Ok v)) one.0 (P.there v one.1)
 
@@ -160,7 +160,7 @@ module _ (program : Resolved) (q : Question) (env : Workspace) (depth : ℕ) (L 
     pub record Followed (o : ℕ → Option ℤ) (E W : Workspace) (a : Value) (ts : List Trace) : Type 0 where
       pub z : ℤ
       pub one : Workspace
-      pub runs : (t : ℕ) (c : List Choice) (r : Rules) → block_from program (below program depth) f (s ∷ more) finished failed (standing E t c r) ≡ before ts (block_from program (below program depth) f more finished failed (standing one t c r))
+      pub runs : (t : ℕ) (c : List Choice) (r : Course) → block_from program (below program depth) f (s ∷ more) finished failed (standing E t c r) ≡ before ts (block_from program (below program depth) f more finished failed (standing one t c r))
       pub here : Amid (mine (with_value o I.slot z)) one
       pub there : Amid (all_of (with_value o I.slot z)) (slice_set W I.slot (Some a))
       pub one_index : value_at one L.at ≡ Some (number_of i)

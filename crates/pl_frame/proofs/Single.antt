@@ -26,12 +26,13 @@ use Rattle.pl_operators.specs.Picking.{subscript, single_index, pick_call, put_c
 use Rattle.pl_resolve.specs.declared.resolved.Resolved.{Resolved}
 use Rattle.pl_meaning.specs.declared.event.Output.{Output}
 use Rattle.pl_meaning.specs.Known.{same}
-use Rattle.pl_meaning.specs.Logs.{Workspace, Question}
+use Rattle.pl_meaning.specs.Logs.{Workspace, LoopQuestion}
 use Rattle.pl_meaning.specs.Names.{slot_of}
 use Rattle.pl_meaning.specs.Running.{Outcome}
 use Rattle.pl_meaning.specs.Parts.{written_in}
 use Rattle.pl_meaning.specs.Forms.{is_among, is_item}
-use Rattle.pl_meaning.specs.Loops.{Write, body_frame, no_rules, own_places, standing_at, kept_at, wrote, is_mixed_with, put_in, put_all, merged, indices, written_slots, Iter, ends_of, all_done, writes, after, outputs, come_to, plain, plain_on, text_of, texts}
+use Rattle.pl_meaning.specs.Loops.{Write, body_frame, own_places, standing_at, kept_at, wrote, is_mixed_with, put_in, put_all, merged, indices, written_slots, Iter, ends_of, all_done, writes, after, outputs, come_to, plain, plain_on, text_of, texts}
+use Rattle.pl_frame.specs.Seeing.{no_course}
 use Rattle.pl_frame.specs.Ordering.{IsReady, IsOther, Each, Reorders, texts_on, plain_texts, OrderLaw}
 use Rattle.pl_frame.proofs.Values.{and_first, and_second}
 use Rattle.pl_frame.proofs.Growth.{Grown, to_line, reaches}
@@ -76,7 +77,7 @@ refused c y i =
 
 -- ## One iteration
 
-module _ (program : Resolved) (q : Question) (env : Workspace) (depth : ℕ) (i : ℤ) where
+module _ (program : Resolved) (q : LoopQuestion) (env : Workspace) (depth : ℕ) (i : ℤ) where
   abbrev Array_of : Value → ℕ → Type 0
   Array_of = Arr program q env depth i
 
@@ -159,7 +160,7 @@ ok_some a b e = cc
 
 -- ## A loop
 
-module _ (program : Resolved) (q : Question) (env : Workspace) (turns depth : ℕ) (at : ℕ) (at_is : slot_of program (body_frame q) q.index.text ≡ Some at) (at_within : at < length env) (ready : IsReady program q env) (items : list_all (is_item program (body_frame q) q.index (written_in q.body)) q.body ≡ true) where
+module _ (program : Resolved) (q : LoopQuestion) (env : Workspace) (turns depth : ℕ) (at : ℕ) (at_is : slot_of program (body_frame q) q.index.text ≡ Some at) (at_within : at < length env) (ready : IsReady program q env) (items : list_all (is_item program (body_frame q) q.index (written_in q.body)) q.body ≡ true) where
   abbrev end_at : ℤ → Option Workspace
   end_at = ends_of program turns depth q env
 
@@ -182,7 +183,7 @@ module _ (program : Resolved) (q : Question) (env : Workspace) (turns depth : �
       (set_here env at (number_of i) at_within)
       (length-set env at (Some (number_of i)))
       (λ s w. inl (set_elsewhere env at s (Some (number_of i)) (λ x. not_index program q env turns depth L s w (sym x))))
-      turns [] d.0 no_rules (sym (ap (λ (x : Outcome). x.ending) (iter_is program q env turns depth L env i)) ∙ d.1)
+      turns [] d.0 no_course (sym (ap (λ (x : Outcome). x.ending) (iter_is program q env turns depth L env i)) ∙ d.1)
 
   pub there : (i : ℤ) (one : Workspace) → end_at i ≡ Some one → (s : ℕ) → Target s → Had program q env depth i one s
   there i one e s w = (reached i one e).touched w.0 s w.1 w.2

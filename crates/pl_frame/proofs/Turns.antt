@@ -17,13 +17,13 @@ use Rattle.pl_values.specs.Workspaces.{value_at}
 use Rattle.pl_operators.specs.Bracketing.{number_of}
 use Rattle.pl_resolve.specs.declared.resolved.Resolved.{Resolved}
 use Rattle.pl_meaning.specs.declared.frame.Frame.{Frame}
-use Rattle.pl_meaning.specs.Logs.{Workspace, Question, Trace}
+use Rattle.pl_meaning.specs.Logs.{Workspace, LoopQuestion, Trace}
 use Rattle.pl_meaning.specs.Running.{Done, Outcome, Ending}
 use Rattle.pl_meaning.specs.Runs.{finished, failed}
 use Rattle.pl_meaning.specs.Parts.{below, block_in, block_from, with_slot, written_in}
 use Rattle.pl_meaning.specs.Forms.{is_among, is_item}
-use Rattle.pl_meaning.specs.Loops.{body_frame, no_rules, start_of, Iter, end_of, ends_of, plain, plain_on, text_of, texts}
-use Rattle.pl_frame.specs.Seeing.{standing}
+use Rattle.pl_meaning.specs.Loops.{body_frame, start_of, Iter, end_of, ends_of, plain, plain_on, text_of, texts}
+use Rattle.pl_frame.specs.Seeing.{no_course, standing}
 use Rattle.pl_frame.specs.Ordering.{Each, texts_on, plain_texts}
 use Rattle.pl_frame.proofs.Values.{and_first, and_second}
 use Rattle.pl_frame.proofs.Assigning.{tip, last_of, Holding, last_of-append}
@@ -60,7 +60,7 @@ abbrev pub Distinct : List ℤ → Type 0
 Distinct [] = Unit {0}
 Distinct (i ∷ is) = Each (λ (j : ℤ). i ≡ j → ⊥) is × Distinct is
 
-module _ (program : Resolved) (q : Question) (env : Workspace) (turns depth : ℕ) (L : Laid program q env) where
+module _ (program : Resolved) (q : LoopQuestion) (env : Workspace) (turns depth : ℕ) (L : Laid program q env) where
   abbrev f : Frame
   f = body_frame q
 
@@ -94,9 +94,9 @@ module _ (program : Resolved) (q : Question) (env : Workspace) (turns depth : �
   pub start_is : (W : Workspace) (i : ℤ) → start_of program q W i ≡ slice_set W L.at (Some (number_of i))
   start_is W i = ap (λ (o : Option ℕ). with_slot W o (number_of i)) L.at_is
 
-  pub iter_is : (W : Workspace) (i : ℤ) → Iter program turns depth q W i ≡ block_from program (below program depth) f q.body finished failed (standing (slice_set W L.at (Some (number_of i))) turns [] no_rules)
+  pub iter_is : (W : Workspace) (i : ℤ) → Iter program turns depth q W i ≡ block_from program (below program depth) f q.body finished failed (standing (slice_set W L.at (Some (number_of i))) turns [] no_course)
   unfolding Iter block_in
-  iter_is W i = ap (λ (E : Workspace). block_from program (below program depth) f q.body finished failed (standing E turns [] no_rules)) (start_is W i)
+  iter_is W i = ap (λ (E : Workspace). block_from program (below program depth) f q.body finished failed (standing E turns [] no_course)) (start_is W i)
 
   pub begun : (ws : ℕ → List (ℕ × ℤ)) (W : Workspace) (i : ℤ) → Amid ws W → Amid ws (slice_set W L.at (Some (number_of i)))
   begun ws W i B = record {
@@ -141,7 +141,7 @@ module _ (program : Resolved) (q : Question) (env : Workspace) (turns depth : �
   Done_well i = (one : Workspace) × (ends_of program turns depth q env i ≡ Some one) × Ends_in program q env depth L one
 
   -- an iteration from another workspace
-  ran : (i : ℤ) (vs : ℕ → List (ℕ × ℤ)) (avoids : Avoids vs i) (W one : Workspace) (left : List Choice) → Amid vs W → Ends_in program q env depth L one → (Iter program turns depth q env i).ending ≡ Done one left → Ran program q env depth L i vs avoids q.body (λ s. None) (slice_set env L.at (Some (number_of i))) (slice_set W L.at (Some (number_of i))) one turns [] no_rules
+  ran : (i : ℤ) (vs : ℕ → List (ℕ × ℤ)) (avoids : Avoids vs i) (W one : Workspace) (left : List Choice) → Amid vs W → Ends_in program q env depth L one → (Iter program turns depth q env i).ending ≡ Done one left → Ran program q env depth L i vs avoids q.body (λ s. None) (slice_set env L.at (Some (number_of i))) (slice_set W L.at (Some (number_of i))) one turns [] no_course
   ran i vs avoids W one left B last h =
       let E : Workspace = slice_set env L.at (Some (number_of i)) in
       iterate program q env depth L i vs avoids q.body L.items (λ n among. among) (λ s. None) E (slice_set W L.at (Some (number_of i)))
@@ -149,7 +149,7 @@ module _ (program : Resolved) (q : Question) (env : Workspace) (turns depth : �
       (between_same vs (λ s. vs s ++ []) (slice_set W L.at (Some (number_of i))) (λ s w. sym (append-nil (vs s))) (begun vs W i B))
       (set_here env L.at (number_of i) L.at_within)
       (set_here W L.at (number_of i) B.wide)
-      turns [] left no_rules one last (sym (ap (λ (x : Outcome). x.ending) (iter_is env i)) ∙ h)
+      turns [] left no_course one last (sym (ap (λ (x : Outcome). x.ending) (iter_is env i)) ∙ h)
 
   -- what is known of each value that an iteration wrote
   pub record Good (i : ℤ) (s : ℕ) : Type 0 where
@@ -181,7 +181,7 @@ module _ (program : Resolved) (q : Question) (env : Workspace) (turns depth : �
   good_by : (i : ℤ) (s : ℕ) (w : Target s) (one : Workspace) (left : List Choice) → Ends_in program q env depth L one → (Iter program turns depth q env i).ending ≡ Done one left → Good i s
   good_by i s w one left last h =
       let avoids : Avoids nothing_yet i = λ s w z. refl in
-      let R : Ran program q env depth L i nothing_yet avoids q.body (λ s. None) (slice_set env L.at (Some (number_of i))) (slice_set env L.at (Some (number_of i))) one turns [] no_rules = ran i nothing_yet avoids env one left at_first last h in
+      let R : Ran program q env depth L i nothing_yet avoids q.body (λ s. None) (slice_set env L.at (Some (number_of i))) (slice_set env L.at (Some (number_of i))) one turns [] no_course = ran i nothing_yet avoids env one left at_first last h in
       let P : Put program q env depth L i nothing_yet avoids s (R.wrote s) = R.touched w.0 s w.1 w.2 in
       let b : Filled program q env depth L one s (own i (R.wrote s)) = link_filled program q env depth L one s (own i (R.wrote s)) (full i [] (R.wrote s) P.value P.is) (R.here.held s w) in
       let z : cell i s ≡ P.value = cell_is i s one left b.array P.value h b.there (wrote_cell i s (R.wrote s) P.value b.array P.is b.holds) in
@@ -206,10 +206,10 @@ module _ (program : Resolved) (q : Question) (env : Workspace) (turns depth : �
 
   goes_by : (i : ℤ) (vs : ℕ → List (ℕ × ℤ)) (W one : Workspace) (left : List Choice) → Avoids vs i → Amid vs W → Ends_in program q env depth L one → (Iter program turns depth q env i).ending ≡ Done one left → Goes_on i vs W
   goes_by i vs W one left avoids B last h =
-      let R : Ran program q env depth L i vs avoids q.body (λ s. None) (slice_set env L.at (Some (number_of i))) (slice_set W L.at (Some (number_of i))) one turns [] no_rules = ran i vs avoids W one left B last h in
+      let R : Ran program q env depth L i vs avoids q.body (λ s. None) (slice_set env L.at (Some (number_of i))) (slice_set W L.at (Some (number_of i))) one turns [] no_course = ran i vs avoids W one left B last h in
       record {
         whole = R.whole;
-        ends = ap (λ (x : Outcome). end_of x.ending) (iter_is W i) ∙ ap end_of (R.ends turns [] no_rules);
+        ends = ap (λ (x : Outcome). end_of x.ending) (iter_is W i) ∙ ap end_of (R.ends turns [] no_course);
         shows = ap (λ (x : Outcome). x.shown) (iter_is W i) ∙ R.shows ∙ sym (ap (λ (x : Outcome). x.shown) (iter_is env i));
         holds = between_same (λ s. vs s ++ own i (R.wrote s)) (λ s. vs s ++ (place_of i, cell i s) ∷ []) R.whole (λ s w.
             let P : Put program q env depth L i vs avoids s (R.wrote s) = R.touched w.0 s w.1 w.2 in

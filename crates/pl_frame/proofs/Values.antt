@@ -1,13 +1,16 @@
--- An expression of the form only reads its workspace; and it does the same in a run with more levels, and where the function in which it
--- stands was called with other counts.
-use Rattle.std.specs.Prelude.{if◌then◌else◌, ◌&&◌, ◌||◌, not, is_none, is_some, option_map}
+-- An expression of the form only reads its workspace, in a frame without doors; and where it has a value there, it has the same in a run with
+-- more levels, on the client, and where the function in which it stands was called with other counts.
+use Rattle.std.specs.Prelude.{if◌then◌else◌, codes, ◌&&◌, ◌||◌, not, is_none, is_some, option_map}
 use Rattle.std.specs.List.{list_all}
 use Rattle.std.specs.Cmp.Lexicographic.{same_text}
 use Rattle.std.proofs.Common.{◌≡◌, ◌∙◌, ℕ, zero, suc, ◌≤◌, ℤ, List, [], ◌∷◌, ◌++◌, length, map, Bool, true, false, Option, Some, None, Result, Ok, Err, arith, refl, sym, ap}
+use Rattle.pl_base.specs.declared.choice.Choice.{Choice}
 use Rattle.pl_base.specs.declared.errors.Place.{Place}
 use Rattle.pl_base.specs.declared.errors.ErrKind.{ErrKind}
 use Rattle.pl_base.specs.declared.errors.ErrKind.TheVariants.{TooDeep, NoValue, ArgCount, BadKind, BadIndex, WrongPlace}
+use Rattle.pl_base.specs.declared.errors.ScriptError.{ScriptError}
 use Rattle.pl_errors.specs.Errors.{error_of}
+use Rattle.pl_syntax.specs.Signs.{unary_sign, binary_sign}
 use Rattle.pl_syntax.specs.declared.expr.Name.{Name}
 use Rattle.pl_syntax.specs.declared.expr.Un.{Un}
 use Rattle.pl_syntax.specs.declared.expr.Bin.{Bin}
@@ -30,13 +33,15 @@ use Rattle.pl_meaning.specs.Logs.{Workspace}
 use Rattle.pl_meaning.specs.Names.{slot_of, function_of}
 use Rattle.pl_meaning.specs.Known.{known_of, same}
 use Rattle.pl_meaning.specs.Accesses.{fail, settle, read, read_of, check, check_of, read_part, selected_of, read_end, end_of}
-use Rattle.pl_meaning.specs.Running.{Running, ◌>>=◌}
-use Rattle.pl_meaning.specs.Parts.{Level, enter, argument_at, argument_of, places_from, places, given_of, values_from, values, elements_from, elements, rows_from, rows, Values, unary, binary, switch, second, both, other as or_other, either, operated, step_of, range, bracket, indexed, end_word, first_of, call_name, applied, called, variable_or_call, index_or_call, compound_of, compound, value_of, value_in, below}
+use Rattle.pl_meaning.specs.Running.{Running, Rest, ◌>>=◌}
+use Rattle.pl_meaning.specs.Extras.{any_remote, extra_of, operator_door, is_remote_read, read_operands, read_door, by_door}
+use Rattle.pl_meaning.specs.Parts.{Level, enter, argument_at, argument_of, places_from, places, given_of, values_from, values, elements_from, elements, rows_from, rows, Values, unary, binary, switch, second, both, other as or_other, either, operated, step_of, range, bracket, one_extra, operator, picked, indexed, end_word, first_of, call_name, applied, called, variable_or_call, index_or_call, compound_of, compound, value_of, value_in, below}
 use Rattle.pl_meaning.specs.Forms.{Read, read_of as read_expr, read_kind, is_among, all_fit, only_index, step_fits, stands, is_plain}
 use Rattle.pl_meaning.specs.Loops.{own_places}
-use Rattle.pl_frame.specs.Seeing.{onward, standing, Comes_to, Framed, Alike, same_end, inside_of}
+use Rattle.pl_frame.specs.Seeing.{Course, onward, standing, has_doors, Comes_to, Framed, Alike, same_end, inside_of}
 use Rattle.pl_frame.proofs.Framed.{Both, framed_both, framed_pure, raise_any, framed_raise, framed_settle, framed_bind, framed_look, no_value}
 use Rattle.pl_frame.proofs.Layers.{parts, read_parts}
+use Rattle.pl_frame.proofs.Doors.{none_asks, unless_asks, both_shut, raise_shut, unary_here, binary_here, selected_here}
 use Rattle.pl_frame.proofs.Functions.{dispatched_framed}
 use Rattle.pl_frame.specs.Reading.{FrameLaw}
 
@@ -52,10 +57,22 @@ pub not_true : (b : Bool) → not b ≡ true → b ≡ false
 not_true false h = refl
 not_true true h = absurd (cc)
 
-module _ (program : Resolved) (f : Frame) (index : Name) (written : List Name) (i : ℤ) (one other : Workspace) (alike : Alike program f index written i one other) (at : ℕ) (at_is : slot_of program f index.text ≡ Some at) (given wanted : ℕ) where
+module _ (program : Resolved) (f : Frame) (index : Name) (written : List Name) (i : ℤ) (at : ℕ) where
+  -- the index has its value in any workspace that has it there
+  abbrev At_index : Values → Frame → Type 0
+  At_index value F = (ends : Option Ends) (e : Expr) → (read_expr program f index written e).is_index ≡ true → (env : Workspace) → value_at env at ≡ Some (number_of i) → Comes_to (argument_of value (inside_of F ends) e) env [] (Ok (Given (number_of i)))
+
+  -- the index list of a variable that the body writes: the index alone
+  own_list_by : (value : Values) (F : Frame) → At_index value F → (ends : Option Ends) (slot : ℕ) (es : List Expr) → only_index (map (read_expr program f index written) es) ≡ true → (env : Workspace) → value_at env at ≡ Some (number_of i) → Comes_to (places value (inside_of F ends) slot es) env [] (Ok (own_places i))
+  unfolding places
+  own_list_by value F I ends slot [] h env here = absurd (cc)
+  own_list_by value F I ends slot (e ∷ []) h env here = λ k g t c r. I (Some (record { slot = slot; position = 0; count = 1 })) e h env here _ g t c r
+  own_list_by value F I ends slot (e ∷ x ∷ more) h env here = absurd (cc)
+
+module _ (program : Resolved) (f : Frame) (index : Name) (written : List Name) (i : ℤ) (one other : Workspace) (alike : Alike program f index written i one other) (at : ℕ) (at_is : slot_of program f index.text ≡ Some at) (client : Bool) (given wanted : ℕ) (shut : has_doors program f ≡ false) where
   -- the frame of the other run
   abbrev f' : Frame
-  f' = record { scope = f.scope; given = given; wanted = wanted; ends = f.ends }
+  f' = record { client = client; scope = f.scope; given = given; wanted = wanted; ends = f.ends }
 
   abbrev read_it : Expr → Read
   read_it = read_expr program f index written
@@ -65,15 +82,11 @@ module _ (program : Resolved) (f : Frame) (index : Name) (written : List Name) (
   Each value value' [] = Unit {0}
   Each value value' (e ∷ es) = ((ends : Option Ends) → same_end one other ends → Both one other (value (inside_of f ends) e) (value' (inside_of f' ends) e)) × Each value value' es
 
-  -- the index has its value in any workspace that has it there
-  abbrev At_index : Values → Frame → Type 0
-  At_index value F = (ends : Option Ends) (e : Expr) → (read_it e).is_index ≡ true → (env : Workspace) → value_at env at ≡ Some (number_of i) → Comes_to (argument_of value (inside_of F ends) e) env [] (Ok (Given (number_of i)))
-
   -- what is shown of the values at the levels of both runs
   pub record Framings (value value' : Values) : Type 0 where
     pub only_reads : (ends : Option Ends) → same_end one other ends → (e : Expr) → (read_it e).fits ≡ true → Both one other (value (inside_of f ends) e) (value' (inside_of f' ends) e)
-    pub at_index : At_index value f
-    pub there_at_index : At_index value' f'
+    pub at_index : At_index program f index written i at value f
+    pub there_at_index : At_index program f index written i at value' f'
     pub index_reads : (ends : Option Ends) (e : Expr) → (read_it e).is_index ≡ true → Both one other (value (inside_of f ends) e) (value' (inside_of f' ends) e)
 
   -- the other run has as many levels, or more
@@ -132,18 +145,20 @@ module _ (program : Resolved) (f : Frame) (index : Name) (written : List Name) (
       let inner : Option Ends = Some (record { slot = slot; position = length done; count = count }) in
       framed_bind one other _ _ (argument_framed value value' inner e (each.0 inner s)) (λ a. places_next value value' ends slot count s (done ++ a ∷ []) es each.1)
 
-  -- the index list of a variable that the body writes: the index alone
-  own_list_by : (value : Values) (F : Frame) → At_index value F → (ends : Option Ends) (slot : ℕ) (es : List Expr) → only_index (map read_it es) ≡ true → (env : Workspace) → value_at env at ≡ Some (number_of i) → Comes_to (places value (inside_of F ends) slot es) env [] (Ok (own_places i))
-  unfolding places
-  own_list_by value F I ends slot [] h env here = absurd (cc)
-  own_list_by value F I ends slot (e ∷ []) h env here = λ k g t c r. I (Some (record { slot = slot; position = 0; count = 1 })) e h env here _ g t c r
-  own_list_by value F I ends slot (e ∷ x ∷ more) h env here = absurd (cc)
-
   -- ## Operators
 
-  unary_framed : (value value' : Values) → Framings value value' → (ends : Option Ends) → same_end one other ends → (place : Place) (op : Un) (a : Expr) → (read_it a).fits ≡ true → Both one other (unary program.mode value (inside_of f ends) place op a) (unary program.mode value' (inside_of f' ends) place op a)
+  -- an operator of which the language has a value asks in neither frame
+  operator_framed : (place : Place) (sign : List ℕ) (vs : List Value) (r : Result Value ErrKind) → ((v : Value) → r ≡ Ok v → any_remote vs ≡ false) → Both one other (operator program f.client place sign vs r) (operator program client place sign vs r)
+  operator_framed place sign vs (Ok v) here =
+      both_shut one other (operator_door program f.client sign vs) (operator_door program client sign vs) (one_extra place vs) (one_extra place vs) (settle place (Ok v)) (settle place (Ok v))
+      (none_asks f.client (any_remote vs) program.extras sign shut) (unless_asks client (any_remote vs) (extra_of program sign) (here v refl)) (framed_pure one other v)
+  operator_framed place sign vs (Err kind) here =
+      raise_shut one other (operator_door program f.client sign vs) (one_extra place vs) (settle place (Err kind)) (operator program client place sign vs (Err kind)) (error_of kind place)
+      (none_asks f.client (any_remote vs) program.extras sign shut) refl
+
+  unary_framed : (value value' : Values) → Framings value value' → (ends : Option Ends) → same_end one other ends → (place : Place) (op : Un) (a : Expr) → (read_it a).fits ≡ true → Both one other (unary program value (inside_of f ends) place op a) (unary program value' (inside_of f' ends) place op a)
   unfolding unary
-  unary_framed value value' D ends s place op a h = framed_bind one other _ _ (D.only_reads ends s a h) (λ x. framed_settle one other place (unary_of program.mode op x))
+  unary_framed value value' D ends s place op a h = framed_bind one other _ _ (D.only_reads ends s a h) (λ x. operator_framed place (unary_sign op) (x ∷ []) (unary_of program.mode op x) (unary_here program.mode op x))
 
   switch_framed : (value value' : Values) → Framings value value' → (ends : Option Ends) → same_end one other ends → (place : Place) (a : Expr) → (read_it a).fits ≡ true → Both one other (switch value (inside_of f ends) place a) (switch value' (inside_of f' ends) place a)
   unfolding switch
@@ -157,11 +172,11 @@ module _ (program : Resolved) (f : Frame) (index : Name) (written : List Name) (
   other_framed value value' D ends s place b h false = framed_bind one other _ _ (switch_framed value value' D ends s place b h) (λ x. framed_pure one other _)
   other_framed value value' D ends s place b h true = framed_pure one other _
 
-  binary_framed : (value value' : Values) → Framings value value' → (ends : Option Ends) → same_end one other ends → (place : Place) (op : Bin) (a b : Expr) → (read_it a).fits ≡ true → (read_it b).fits ≡ true → Both one other (binary program.mode value (inside_of f ends) place op a b) (binary program.mode value' (inside_of f' ends) place op a b)
+  binary_framed : (value value' : Values) → Framings value value' → (ends : Option Ends) → same_end one other ends → (place : Place) (op : Bin) (a b : Expr) → (read_it a).fits ≡ true → (read_it b).fits ≡ true → Both one other (binary program value (inside_of f ends) place op a b) (binary program value' (inside_of f' ends) place op a b)
   unfolding binary
-  binary_framed value value' D ends s place op a b h j = framed_bind one other _ _ (D.only_reads ends s a h) (λ x. framed_bind one other _ _ (D.only_reads ends s b j) (λ y. framed_settle one other place (binary_of program.mode op x y)))
+  binary_framed value value' D ends s place op a b h j = framed_bind one other _ _ (D.only_reads ends s a h) (λ x. framed_bind one other _ _ (D.only_reads ends s b j) (λ y. operator_framed place (binary_sign op) (x ∷ y ∷ []) (binary_of program.mode op x y) (binary_here program.mode op x y)))
 
-  operated_framed : (value value' : Values) → Framings value value' → (ends : Option Ends) → same_end one other ends → (place : Place) (op : Bin) (a b : Expr) → (read_it a).fits ≡ true → (read_it b).fits ≡ true → Both one other (operated program.mode value (inside_of f ends) place op a b) (operated program.mode value' (inside_of f' ends) place op a b)
+  operated_framed : (value value' : Values) → Framings value value' → (ends : Option Ends) → same_end one other ends → (place : Place) (op : Bin) (a b : Expr) → (read_it a).fits ≡ true → (read_it b).fits ≡ true → Both one other (operated program value (inside_of f ends) place op a b) (operated program value' (inside_of f' ends) place op a b)
   unfolding both either
   operated_framed value value' D ends s place AndAlso a b h j = framed_bind one other _ _ (switch_framed value value' D ends s place a h) (second_framed value value' D ends s place b j)
   operated_framed value value' D ends s place OrElse a b h j = framed_bind one other _ _ (switch_framed value value' D ends s place a h) (other_framed value value' D ends s place b j)
@@ -195,9 +210,49 @@ module _ (program : Resolved) (f : Frame) (index : Name) (written : List Name) (
   settled_check place (Some v) = framed_pure one other tt
   settled_check place None = framed_raise one other (error_of NoValue place)
 
-  settled_part : (place : Place) (list : List Argument) (v : Option Value) → Both one other (selected_of place list v) (selected_of place list v)
-  settled_part place list (Some v) = framed_settle one other place (select_value v list)
-  settled_part place list None = framed_raise one other (error_of NoValue place)
+  -- what an index selects of a variable, where no operation asks
+  picked_by : (client : Bool) (W : Workspace) (slot : ℕ) (place : Place) (list : List Argument) (o : Option Value) → value_at W slot ≡ o → read_door program client o list ≡ None → (k : Value → Rest) (g : ScriptError → Rest) (t : ℕ) (c : List Choice) (r : Course) → picked program client slot place list k g (standing W t c r) ≡ selected_of place list o k g (standing W t c r)
+  unfolding picked read_part
+  picked_by client W slot place list o held door k g t c r =
+      ap (λ (d : Option ℕ). by_door d (one_extra place (read_operands (value_at W slot) list)) (read_part slot place list) k g (standing W t c r)) (ap (λ (v : Option Value). read_door program client v list) held ∙ door)
+      ∙ ap (λ (v : Option Value). selected_of place list v k g (standing W t c r)) held
+
+  read_shut : (o : Option Value) (list : List Argument) → read_door program f.client o list ≡ None
+  read_shut None list = refl
+  read_shut (Some v) list = none_asks f.client (is_remote_read v list) program.extras (codes "()") shut
+
+  picked_here : (slot : ℕ) (place : Place) (list : List Argument) (v : Value) → value_at one slot ≡ Some v → (r : Result Value ErrKind) → select_value v list ≡ r → (k : Value → Rest) (g : ScriptError → Rest) (t : ℕ) (c : List Choice) (co : Course) → picked program f.client slot place list k g (standing one t c co) ≡ settle place r k g (standing one t c co)
+  picked_here slot place list v held r is k g t c co =
+      picked_by f.client one slot place list (Some v) held (read_shut (Some v) list) k g t c co
+      ∙ ap (λ (z : Result Value ErrKind). settle place z k g (standing one t c co)) is
+
+  picked_there : (slot : ℕ) (place : Place) (list : List Argument) (w : Value) → value_at other slot ≡ Some w → (x : Value) → select_value w list ≡ Ok x → Comes_to (picked program client slot place list) other [] (Ok x)
+  picked_there slot place list w held x is k g t c co =
+      picked_by client other slot place list (Some w) held (unless_asks client (is_remote_read w list) (extra_of program (codes "()")) (selected_here w list x is)) k g t c co
+      ∙ ap (λ (z : Result Value ErrKind). settle place z k g (standing other t c co)) is
+
+  picked_framed : (slot : ℕ) → value_at one slot ≡ value_at other slot → (place : Place) (list : List Argument) (o : Option Value) → value_at one slot ≡ o → Both one other (picked program f.client slot place list) (picked program client slot place list)
+  picked_framed slot equal place list None held = record {
+    shown = [];
+    gives = Err (error_of NoValue place);
+    here = λ k g t c co. picked_by f.client one slot place list None held refl k g t c co;
+    there = λ a gives. absurd (no_value (error_of NoValue place) a gives);
+  }
+  picked_framed slot equal place list (Some v) held = by_part (select_value v list) refl
+    where
+      by_part : (r : Result Value ErrKind) → select_value v list ≡ r → Both one other (picked program f.client slot place list) (picked program client slot place list)
+      by_part (Ok x) is = record {
+        shown = [];
+        gives = Ok x;
+        here = picked_here slot place list v held (Ok x) is;
+        there = λ a gives k g t c co. picked_there slot place list v (sym equal ∙ held) x is k g t c co ∙ ap (λ o. onward k g o (standing other t c co)) gives;
+      }
+      by_part (Err kind) is = record {
+        shown = [];
+        gives = Err (error_of kind place);
+        here = picked_here slot place list v held (Err kind) is;
+        there = λ a gives. absurd (no_value (error_of kind place) a gives);
+      }
 
   first_framed : (place : Place) (vs : List Value) → Both one other (first_of place vs) (first_of place vs)
   first_framed place [] = framed_raise one other (error_of ArgCount place)
@@ -206,7 +261,7 @@ module _ (program : Resolved) (f : Frame) (index : Name) (written : List Name) (
   applied_framed : (d d' : Level) (ends : Option Ends) → same_end one other ends → (n : Name) (nout : ℕ) (es : List Expr) → (is_none (function_of program n.text) && is_plain (known_of n.text)) ≡ true → Each d.value d'.value es → Both one other (applied program d (inside_of f ends) n nout es) (applied program d' (inside_of f' ends) n nout es)
   unfolding values call_name
   applied_framed d d' ends s n nout es known each =
-      framed_bind one other _ _ (values_next d.value d'.value ends s n.place [] es each) (λ vs. dispatched_framed one other program d d' n.place nout vs (function_of program n.text) (known_of n.text) known)
+      framed_bind one other _ _ (values_next d.value d'.value ends s n.place [] es each) (λ vs. dispatched_framed one other program f shut client d d' n nout vs (function_of program n.text) (known_of n.text) refl known)
 
   -- a name that stands for no variable stands for a function
   stands_for : (n : Name) (o : Option ℕ) → o ≡ None → (is_some o || (is_none (function_of program n.text) && is_plain (known_of n.text))) ≡ true → (is_none (function_of program n.text) && is_plain (known_of n.text)) ≡ true
@@ -220,52 +275,49 @@ module _ (program : Resolved) (f : Frame) (index : Name) (written : List Name) (
       framed_bind one other _ _ (entering l l' L place (λ d. applied program d (inside_of f ends) n 1 []) (λ d'. applied program d' (inside_of f' ends) n 1 []) (λ d d' D. applied_framed d d' ends s n 1 [] (stands_for n (slot_of program f n.text) is h) tt)) (first_framed n.place)
 
   -- a variable that the body writes
-  written_kept : (d d' : Level) → Framings d.value d'.value → (ends : Option Ends) (n : Name) (slot : ℕ) (es : List Expr) → slot_of program f n.text ≡ Some slot → is_among written n ≡ true → only_index (map read_it es) ≡ true → (v : Value) → value_at one slot ≡ Some v → (r : Result Value ErrKind) → select_value v (own_places i) ≡ r → Both one other (indexed d.value (inside_of f ends) n slot es) (indexed d'.value (inside_of f' ends) n slot es)
-  unfolding indexed check read_part
-  written_kept d d' D ends n slot es is among h v held (Ok x) picked = record {
+  written_kept : (d d' : Level) → Framings d.value d'.value → (ends : Option Ends) (n : Name) (slot : ℕ) (es : List Expr) → slot_of program f n.text ≡ Some slot → is_among written n ≡ true → only_index (map read_it es) ≡ true → (v : Value) → value_at one slot ≡ Some v → (r : Result Value ErrKind) → select_value v (own_places i) ≡ r → Both one other (indexed program d.value (inside_of f ends) n slot es) (indexed program d'.value (inside_of f' ends) n slot es)
+  unfolding indexed check
+  written_kept d d' D ends n slot es is among h v held (Ok x) chosen = record {
     shown = [];
     gives = Ok x;
     here = λ k g t c r.
-        ap (λ o. check_of n.place o (λ u. (places d.value (inside_of f ends) slot es >>= (λ list. read_part slot n.place list)) k g) g (standing one t c r)) held
-        ∙ own_list_by d.value f D.at_index ends slot es h one (alike.index_here at at_is) (λ list. read_part slot n.place list k g) g t c r
-        ∙ ap (λ o. selected_of n.place (own_places i) o k g (standing one t c r)) held
-        ∙ ap (λ z. settle n.place z k g (standing one t c r)) picked;
+        ap (λ o. check_of n.place o (λ u. (places d.value (inside_of f ends) slot es >>= (λ list. picked program f.client slot n.place list)) k g) g (standing one t c r)) held
+        ∙ own_list_by program f index written i at d.value f D.at_index ends slot es h one (alike.index_here at at_is) (λ list. picked program f.client slot n.place list k g) g t c r
+        ∙ picked_here slot n.place (own_places i) v held _ chosen k g t c r;
     there = λ a gives k g t c r.
-        let w = alike.parts n slot v x among is held picked in
-        ap (λ o. check_of n.place o (λ u. (places d'.value (inside_of f' ends) slot es >>= (λ list. read_part slot n.place list)) k g) g (standing other t c r)) w.1
-        ∙ own_list_by d'.value f' D.there_at_index ends slot es h other (alike.index_there at at_is) (λ list. read_part slot n.place list k g) g t c r
-        ∙ ap (λ o. selected_of n.place (own_places i) o k g (standing other t c r)) w.1
-        ∙ ap (λ z. settle n.place z k g (standing other t c r)) w.2
+        let w = alike.parts n slot v x among is held chosen in
+        ap (λ o. check_of n.place o (λ u. (places d'.value (inside_of f' ends) slot es >>= (λ list. picked program client slot n.place list)) k g) g (standing other t c r)) w.1
+        ∙ own_list_by program f index written i at d'.value f' D.there_at_index ends slot es h other (alike.index_there at at_is) (λ list. picked program client slot n.place list k g) g t c r
+        ∙ picked_there slot n.place (own_places i) w.0 w.1 x w.2 k g t c r
         ∙ ap (λ o. onward k g o (standing other t c r)) gives;
   }
-  written_kept d d' D ends n slot es is among h v held (Err kind) picked = record {
+  written_kept d d' D ends n slot es is among h v held (Err kind) chosen = record {
     shown = [];
     gives = Err (error_of kind n.place);
     here = λ k g t c r.
-        ap (λ o. check_of n.place o (λ u. (places d.value (inside_of f ends) slot es >>= (λ list. read_part slot n.place list)) k g) g (standing one t c r)) held
-        ∙ own_list_by d.value f D.at_index ends slot es h one (alike.index_here at at_is) (λ list. read_part slot n.place list k g) g t c r
-        ∙ ap (λ o. selected_of n.place (own_places i) o k g (standing one t c r)) held
-        ∙ ap (λ z. settle n.place z k g (standing one t c r)) picked;
+        ap (λ o. check_of n.place o (λ u. (places d.value (inside_of f ends) slot es >>= (λ list. picked program f.client slot n.place list)) k g) g (standing one t c r)) held
+        ∙ own_list_by program f index written i at d.value f D.at_index ends slot es h one (alike.index_here at at_is) (λ list. picked program f.client slot n.place list k g) g t c r
+        ∙ picked_here slot n.place (own_places i) v held _ chosen k g t c r;
     there = λ a gives. absurd (no_value (error_of kind n.place) a gives);
   }
 
-  written_framed : (d d' : Level) → Framings d.value d'.value → (ends : Option Ends) (n : Name) (slot : ℕ) (es : List Expr) → slot_of program f n.text ≡ Some slot → is_among written n ≡ true → only_index (map read_it es) ≡ true → (o : Option Value) → value_at one slot ≡ o → Both one other (indexed d.value (inside_of f ends) n slot es) (indexed d'.value (inside_of f' ends) n slot es)
+  written_framed : (d d' : Level) → Framings d.value d'.value → (ends : Option Ends) (n : Name) (slot : ℕ) (es : List Expr) → slot_of program f n.text ≡ Some slot → is_among written n ≡ true → only_index (map read_it es) ≡ true → (o : Option Value) → value_at one slot ≡ o → Both one other (indexed program d.value (inside_of f ends) n slot es) (indexed program d'.value (inside_of f' ends) n slot es)
   unfolding indexed check
   written_framed d d' D ends n slot es is among h None held = record {
     shown = [];
     gives = Err (error_of NoValue n.place);
-    here = λ k g t c r. ap (λ o. check_of n.place o (λ u. (places d.value (inside_of f ends) slot es >>= (λ list. read_part slot n.place list)) k g) g (standing one t c r)) held;
+    here = λ k g t c r. ap (λ o. check_of n.place o (λ u. (places d.value (inside_of f ends) slot es >>= (λ list. picked program f.client slot n.place list)) k g) g (standing one t c r)) held;
     there = λ a gives. absurd (no_value (error_of NoValue n.place) a gives);
   }
   written_framed d d' D ends n slot es is among h (Some v) held = written_kept d d' D ends n slot es is among h v held (select_value v (own_places i)) refl
 
-  indexed_framed : (d d' : Level) → Framings d.value d'.value → (ends : Option Ends) (n : Name) (slot : ℕ) (es : List Expr) → slot_of program f n.text ≡ Some slot → (b : Bool) → is_among written n ≡ b → (if b then only_index (map read_it es) else all_fit (map read_it es)) ≡ true → Both one other (indexed d.value (inside_of f ends) n slot es) (indexed d'.value (inside_of f' ends) n slot es)
-  unfolding indexed check read_part places
+  indexed_framed : (d d' : Level) → Framings d.value d'.value → (ends : Option Ends) (n : Name) (slot : ℕ) (es : List Expr) → slot_of program f n.text ≡ Some slot → (b : Bool) → is_among written n ≡ b → (if b then only_index (map read_it es) else all_fit (map read_it es)) ≡ true → Both one other (indexed program d.value (inside_of f ends) n slot es) (indexed program d'.value (inside_of f' ends) n slot es)
+  unfolding indexed check places
   indexed_framed d d' D ends n slot es is false apart h =
       let equal : value_at one slot ≡ value_at other slot = alike.unwritten n slot apart is in
       framed_bind one other _ _ (framed_look one other (check_of n.place) slot equal (settled_check n.place (value_at one slot))) (λ u.
       framed_bind one other _ _ (places_next d.value d'.value ends slot (length es) equal [] es (each_fits d.value d'.value D es h)) (λ list.
-      framed_look one other (selected_of n.place list) slot equal (settled_part n.place list (value_at one slot))))
+      picked_framed slot equal n.place list (value_at one slot) refl))
   indexed_framed d d' D ends n slot es is true among h = written_framed d d' D ends n slot es is among h (value_at one slot) refl
 
   each_of : (value value' : Values) → Framings value value' → (es : List Expr) (b : Bool) → (if b then only_index (map read_it es) else all_fit (map read_it es)) ≡ true → Each value value' es
@@ -361,7 +413,7 @@ module _ (program : Resolved) (f : Frame) (index : Name) (written : List Name) (
 
   -- the index list of a variable that the body writes, in the other run
   pub there_own_list : (m n : ℕ) → m ≤ n → (ends : Option Ends) (slot : ℕ) (es : List Expr) → only_index (map read_it es) ≡ true → (env : Workspace) → value_at env at ≡ Some (number_of i) → Comes_to (places (value_in program (below program n)) (inside_of f' ends) slot es) env [] (Ok (own_places i))
-  there_own_list m n h = own_list_by (value_in program (below program n)) f' (both_framed m n h).there_at_index
+  there_own_list m n h = own_list_by program f index written i at (value_in program (below program n)) f' (both_framed m n h).there_at_index
 
 -- ## In one run
 
@@ -371,12 +423,12 @@ module _ (program : Resolved) (f : Frame) (index : Name) (written : List Name) (
     pub at_index : (ends : Option Ends) (e : Expr) → (read_expr program f index written e).is_index ≡ true → (env : Workspace) → value_at env at ≡ Some (number_of i) → Comes_to (argument_of value (inside_of f ends) e) env [] (Ok (Given (number_of i)))
 
   pub own_list : (value : Values) → Framing value → (ends : Option Ends) (slot : ℕ) (es : List Expr) → only_index (map (read_expr program f index written) es) ≡ true → (env : Workspace) → value_at env at ≡ Some (number_of i) → Comes_to (places value (inside_of f ends) slot es) env [] (Ok (own_places i))
-  own_list value D = own_list_by program f index written i one other alike at at_is f.given f.wanted value f D.at_index
+  own_list value D = own_list_by program f index written i at value f D.at_index
 
-  pub all_framed : (n : ℕ) → Framing (value_in program (below program n))
-  all_framed n =
-      let B = both_framed program f index written i one other alike at at_is f.given f.wanted n n (omega arith) in
+  pub all_framed : has_doors program f ≡ false → (n : ℕ) → Framing (value_in program (below program n))
+  all_framed shut n =
+      let B = both_framed program f index written i one other alike at at_is f.client f.given f.wanted shut n n (omega arith) in
       record { only_reads = λ ends s e h. framed_both one other (B.only_reads ends s e h); at_index = B.at_index }
 
 pub every_expression : FrameLaw
-every_expression program f index written i one other at depth e is alike same h = (all_framed program f index written i one other alike at is depth).only_reads f.ends same e h
+every_expression program f index written i one other at depth e shut is alike same h = (all_framed program f index written i one other alike at is shut depth).only_reads f.ends same e h

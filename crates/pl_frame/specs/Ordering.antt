@@ -6,7 +6,7 @@ use Rattle.pl_values.specs.declared.value.Value.TheVariants as value
 use Rattle.pl_values.specs.Workspaces.{value_at}
 use Rattle.pl_resolve.specs.declared.resolved.Resolved.{Resolved}
 use Rattle.pl_meaning.specs.declared.event.Output.{Output}
-use Rattle.pl_meaning.specs.Logs.{Workspace, Question}
+use Rattle.pl_meaning.specs.Logs.{Workspace, LoopQuestion}
 use Rattle.pl_meaning.specs.Names.{slot_of}
 use Rattle.pl_meaning.specs.Parts.{written_in}
 use Rattle.pl_meaning.specs.Forms.{is_among, is_form}
@@ -25,7 +25,7 @@ Each P [] = Unit {0}
 Each P (x ∷ xs) = P x × Each P xs
 
 -- every variable of a scope has a slot in its workspace: a session makes a workspace as long as its scope
-abbrev pub HasSlot : Resolved → Question → Workspace → Type 0
+abbrev pub HasSlot : Resolved → LoopQuestion → Workspace → Type 0
 HasSlot program q env = (at : ℕ) → slot_of program (body_frame q) q.index.text ≡ Some at → at < length env
 
 -- an array has one cell for each of its places, and no more of them than an array may have
@@ -42,14 +42,14 @@ abbrev pub IsNew : Workspace → ℕ → Type 0
 IsNew env slot = (slot < length env) × (value_at env slot ≡ None)
 
 -- each variable that the body writes has an array before the loop, or is new with the loop
-abbrev pub IsReady : Resolved → Question → Workspace → Type 0
+abbrev pub IsReady : Resolved → LoopQuestion → Workspace → Type 0
 IsReady program q env = (n : Name) (slot : ℕ) → is_among (written_in q.body) n ≡ true → slot_of program (body_frame q) n.text ≡ Some slot → HasArray env slot ⊎ IsNew env slot
 
 -- a slot of no variable that the loop touches: neither its index nor one that the body writes
-abbrev pub IsOther : Resolved → Question → ℕ → Type 0
+abbrev pub IsOther : Resolved → LoopQuestion → ℕ → Type 0
 IsOther program q slot = (n : Name) → slot_of program (body_frame q) n.text ≡ Some slot → (is_among (written_in q.body) n ≡ false) × (n.text ≢ q.index.text)
 
-module _ (program : Resolved) (turns depth : ℕ) (q : Question) where
+module _ (program : Resolved) (turns depth : ℕ) (q : LoopQuestion) where
   -- behind a pass, where it doesn't raise
   abbrev pub texts_on : (Workspace → List ℕ) → Option Workspace → List ℕ
   texts_on more None = []
@@ -64,7 +64,7 @@ module _ (program : Resolved) (turns depth : ℕ) (q : Question) where
 -- of the index's values, ends, and ends with the variables that the loop's answer has; all others are as they were,
 -- and it prints the iterations' own texts in that order
 abbrev pub OrderLaw : Type 0
-OrderLaw = (program : Resolved) (turns depth : ℕ) (q : Question) (env : Workspace) (outs : List Output) (p : List ℤ)
+OrderLaw = (program : Resolved) (turns depth : ℕ) (q : LoopQuestion) (env : Workspace) (outs : List Output) (p : List ℤ)
     → is_form program (body_frame q) q.index q.body ≡ true
     → HasSlot program q env
     → IsReady program q env

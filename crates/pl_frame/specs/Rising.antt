@@ -12,7 +12,7 @@ use Rattle.pl_values.specs.Workspaces.{value_at}
 use Rattle.pl_operators.specs.Picking.{assign_value}
 use Rattle.pl_resolve.specs.declared.resolved.Resolved.{Resolved}
 use Rattle.pl_meaning.specs.declared.event.Output.{Output}
-use Rattle.pl_meaning.specs.Logs.{Workspace, Question, Trace}
+use Rattle.pl_meaning.specs.Logs.{Workspace, LoopQuestion, Trace}
 use Rattle.pl_meaning.specs.Names.{slot_of}
 use Rattle.pl_meaning.specs.Parts.{value_in, below}
 use Rattle.pl_meaning.specs.Forms.{is_form}
@@ -30,7 +30,7 @@ abbrev pub suits : Option Value → Option Value → Value → Bool
 suits (Some old) now v = true
 suits None now v = is_array (out-Value v) && not (is_mixed now v)
 
-module _ (program : Resolved) (depth : ℕ) (q : Question) (env : Workspace) where
+module _ (program : Resolved) (depth : ℕ) (q : LoopQuestion) (env : Workspace) where
   -- a statement of the body on a workspace: its expression shows something and has a value, and that was assigned to the
   -- variable's own place
   pub record Assigns (i : ℤ) (s : Stmt) (now : Workspace) (shown : List Trace) (next : Workspace) : Type 0 where
@@ -91,7 +91,7 @@ outputs_in end (slot ∷ slots) = output_with slot (value_at end slot) (outputs_
 -- where all passes are done, each iteration is done by itself, they print what the passes printed, and the loop comes to the
 -- variables as they stand in the workspace
 abbrev pub RisingLaw : Type 0
-RisingLaw = (program : Resolved) (turns depth : ℕ) (q : Question) (env end : Workspace) (text : List ℕ)
+RisingLaw = (program : Resolved) (turns depth : ℕ) (q : LoopQuestion) (env end : Workspace) (text : List ℕ)
     → is_form program (body_frame q) q.index q.body ≡ true
     → HasSlot program q env
     → IsReady program q env

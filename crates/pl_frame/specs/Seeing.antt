@@ -1,5 +1,5 @@
 -- What it means that a part only reads its workspace, and when two workspaces look the same to an iteration of a loop.
-use Rattle.std.specs.Prelude.{◌≡◌, ℕ, ℤ, List, true, false, Option, Some, None, Result, Ok, Err}
+use Rattle.std.specs.Prelude.{◌≡◌, ℕ, ℤ, List, [], ◌∷◌, Bool, true, false, ◌&&◌, Option, Some, None, Result, Ok, Err}
 use Rattle.pl_base.specs.declared.choice.Choice.{Choice}
 use Rattle.pl_base.specs.declared.errors.ScriptError.{ScriptError}
 use Rattle.pl_syntax.specs.declared.expr.Name.{Name}
@@ -10,10 +10,10 @@ use Rattle.pl_operators.specs.Picking.{select_value}
 use Rattle.pl_resolve.specs.declared.resolved.Resolved.{Resolved}
 use Rattle.pl_meaning.specs.declared.frame.Frame.{Frame}
 use Rattle.pl_meaning.specs.declared.frame.Ends.{Ends}
-use Rattle.pl_meaning.specs.Logs.{Workspace, Trace, Rules}
+use Rattle.pl_meaning.specs.Logs.{Workspace, Trace, Rules, keeping}
 use Rattle.pl_meaning.specs.Names.{slot_of}
 use Rattle.pl_meaning.specs.Running.{State, Rest, Running, before}
-use Rattle.pl_meaning.specs.Loops.{own_places}
+use Rattle.pl_meaning.specs.Loops.{no_rules, own_places}
 use Rattle.pl_meaning.specs.Forms.{is_among}
 
 -- what a run comes to behind a part that came to this
@@ -21,13 +21,35 @@ abbrev pub onward : {A : Type 0} → (A → Rest) → (ScriptError → Rest) →
 onward k h (Ok a) = k a
 onward k h (Err e) = h e
 
--- a run stands here
-abbrev pub standing : Workspace → ℕ → List Choice → Rules → State
-standing env turns choices rules = record { env = env; turns = turns; choices = choices; rules = rules }
+-- what else a run has: how many calls were started so far, and the rules by which choices answer a question
+pub record Course : Type 0 where
+  pub calls : ℕ
+  pub rules : Rules
 
--- from a workspace a part shows this and comes to this: it leaves the workspace as it is, takes no turn and asks nothing
+-- an iteration's own
+abbrev pub no_course : Course
+no_course = record { calls = 0; rules = no_rules }
+
+-- where the world keeps this
+abbrev pub course_keeping : Course → List Value → Course
+course_keeping co kept = record co { rules = keeping co.rules kept }
+
+-- a run stands here
+abbrev pub standing : Workspace → ℕ → List Choice → Course → State
+standing env turns choices co = record { env = env; turns = turns; calls = co.calls; choices = choices; rules = co.rules }
+
+abbrev pub has_some : List (List ℕ) → Bool
+has_some [] = false
+has_some (text ∷ more) = true
+
+-- operations of this frame may ask for an extra: it is on the client, and the program has extras
+abbrev pub has_doors : Resolved → Frame → Bool
+has_doors program f = f.client && has_some program.extras
+
+-- from a workspace a part shows this and comes to this: it leaves the workspace as it is, takes no turn, starts no call and
+-- asks nothing
 abbrev pub Comes_to : {A : Type 0} → Running A → Workspace → List Trace → Result A ScriptError → Type 0
-Comes_to {A} p env shown gives = (k : A → Rest) (h : ScriptError → Rest) (turns : ℕ) (choices : List Choice) (rules : Rules) → p k h (standing env turns choices rules) ≡ before shown (onward k h gives (standing env turns choices rules))
+Comes_to {A} p env shown gives = (k : A → Rest) (h : ScriptError → Rest) (turns : ℕ) (choices : List Choice) (co : Course) → p k h (standing env turns choices co) ≡ before shown (onward k h gives (standing env turns choices co))
 
 -- a part only reads: it shows something and comes to something, and where that is a value it shows the same and has the same
 -- value from the other workspace

@@ -15,11 +15,11 @@ use Rattle.pl_values.specs.Workspaces.{value_at}
 use Rattle.pl_operators.specs.Picking.{assign_value}
 use Rattle.pl_resolve.specs.declared.resolved.Resolved.{Resolved}
 use Rattle.pl_meaning.specs.declared.event.Output.{Output}
-use Rattle.pl_meaning.specs.Logs.{Workspace, Question, Log}
+use Rattle.pl_meaning.specs.Logs.{Workspace, LoopQuestion, Log}
 use Rattle.pl_meaning.specs.Promises.{At}
 use Rattle.pl_meaning.specs.declared.frame.Frame.{Frame}
 use Rattle.pl_meaning.specs.Forms.{is_form}
-use Rattle.pl_meaning.specs.Loops.{body_frame, start_of, own_places, written_slots, come_to, loop_rules}
+use Rattle.pl_meaning.specs.Loops.{body_frame, start_of, own_places, written_slots, come_to, loop_answer}
 use Rattle.pl_frame.specs.Ordering.{Each, HasSlot, HasArray, IsNew}
 use Rattle.pl_frame.specs.Rising.{suits, Passing, Pass, Risen, output_with, outputs_in}
 use Rattle.pl_frame.proofs.Passing.{ready_slots, went_in_pass, drop_next}
@@ -36,7 +36,7 @@ pub kind_of : (s : Stmt) (t : Target) (name : Name) (list : List Expr) (e : Expr
 kind_of s t name list e is part = ap out-StmtKind (is ∙ ap (λ (x : Target). stmt.Assign x e) part) ∙ outs-Assign (Indexed name list) e
 
 -- what was tested is what the passes rest on
-pub founded : (program : Resolved) (q : Question) (env : Workspace) (f : Frame) (slots : List ℕ) → f ≡ body_frame q → slots ≡ written_slots program q → is_form program f q.index q.body ≡ true → HasSlot program q env → Each (λ (s : ℕ). HasArray env s ⊎ IsNew env s) slots → Founded program q env
+pub founded : (program : Resolved) (q : LoopQuestion) (env : Workspace) (f : Frame) (slots : List ℕ) → f ≡ body_frame q → slots ≡ written_slots program q → is_form program f q.index q.body ≡ true → HasSlot program q env → Each (λ (s : ℕ). HasArray env s ⊎ IsNew env s) slots → Founded program q env
 founded program q env f slots at are form index ready = record {
   form = subst (λ (g : Frame). is_form program g q.index q.body ≡ true) at form;
   index = index;
@@ -44,14 +44,14 @@ founded program q env f slots at are form index ready = record {
 }
 
 -- where a run stands with a printer that keeps this text
-abbrev pub printing : Workspace → ℕ → List ℕ → At
-printing env turns text = record { env = env; turns = turns; log = printer_log text }
+abbrev pub printing : Workspace → ℕ → ℕ → List ℕ → At
+printing env turns calls text = record { env = env; turns = turns; calls = calls; log = printer_log text }
 
-module _ (program : Resolved) (depth : ℕ) (q : Question) (env : Workspace) where
-  pub one_more : Founded program q env → (k : ℕ) (i : ℤ) (before : Workspace) (told : List ℕ) → Risen program depth q env k before told → (n : ℕ) (now : Workspace) (text : List ℕ) → Passing program depth q env i (start_of program q before i) told n now text → (s : Stmt) → slice_get q.body n ≡ Some s → (next : Workspace) (more : List ℕ) (turns left : ℕ) → Stepped program depth q env i s (printing now turns text) (printing next left more) → Passing program depth q env i (start_of program q before i) told (n + 1) next more
-  one_more F k i before told R n now text P s is next more turns left S =
+module _ (program : Resolved) (depth : ℕ) (q : LoopQuestion) (env : Workspace) where
+  pub one_more : Founded program q env → (k : ℕ) (i : ℤ) (before : Workspace) (told : List ℕ) → Risen program depth q env k before told → (n : ℕ) (now : Workspace) (text : List ℕ) → Passing program depth q env i (start_of program q before i) told n now text → (s : Stmt) → slice_get q.body n ≡ Some s → (next : Workspace) (more : List ℕ) (turns left calls started : ℕ) → Stepped program depth q env i s (printing now turns calls text) (printing next left started more) → Passing program depth q env i (start_of program q before i) told (n + 1) next more
+  one_more F k i before told R n now text P s is next more turns left calls started S =
       let A = S.assigned in
-      let w = went_in_pass program depth q env F.form F.index k i before told R n now told text P s is S.name S.list S.expr S.kind (printing now turns text) A.between A.gained refl A.went in
+      let w = went_in_pass program depth q env F.form F.index k i before told R n now told text P s is S.name S.list S.expr S.kind (printing now turns calls text) A.between A.gained refl A.went in
       subst (λ (m : ℕ). Passing program depth q env i (start_of program q before i) told m next more) (sym (add-one n)) (record {
         now = now;
         told = text;
@@ -91,7 +91,7 @@ module _ (program : Resolved) (depth : ℕ) (q : Question) (env : Workspace) whe
       subst (λ (n : ℕ). Risen program depth q env n now text) (sym (add-one k)) (record { now = before; told = told; come = R; pass = mine })
 
   -- the answer of a loop of which all passes ended
-  pub risen_ok : (turns : ℕ) → Founded program q env → (end : Workspace) (text : List ℕ) → Risen program depth q env q.count end text → (slots : List ℕ) → slots ≡ written_slots program q → (r : Result Done NoMemory) → IfOk r (λ d. (p : Resolved) → d ≡ ending_of p q text (Ok (outputs_in end slots))) → IfOk r (λ d. loop_rules program turns depth q env d.choice ≡ Some d.answer)
+  pub risen_ok : (turns : ℕ) → Founded program q env → (end : Workspace) (text : List ℕ) → Risen program depth q env q.count end text → (slots : List ℕ) → slots ≡ written_slots program q → (r : Result Done NoMemory) → IfOk r (λ d. (p : Resolved) → d ≡ ending_of p q text (Ok (outputs_in end slots))) → IfOk r (λ d. loop_answer program turns depth q env d.choice ≡ Some d.answer)
   risen_ok turns F end text R slots are r h =
       let law = rising_order program turns depth q env end text F.form F.index F.ready R in
       let come : come_to program turns depth q env ≡ Ok (outputs_in end slots) = law.2 ∙ ap (λ (l : List ℕ). Ok (outputs_in end l)) (sym are) in

@@ -8,7 +8,7 @@ use Rattle.pl_resolve.specs.declared.resolved.Resolved.{Resolved}
 use Rattle.pl_meaning.specs.declared.frame.Frame.{Frame}
 use Rattle.pl_meaning.specs.declared.ended.Ended.{Ended}
 use Rattle.pl_meaning.specs.declared.ended.Ended.TheVariants as ended
-use Rattle.pl_meaning.specs.Logs.{Workspace, Trace, Byte, Question, grown}
+use Rattle.pl_meaning.specs.Logs.{Workspace, Trace, Byte, LoopQuestion, grown}
 use Rattle.pl_meaning.specs.Running.{Outcome, Done}
 use Rattle.pl_meaning.specs.Runs.{Carries, run_of}
 use Rattle.pl_meaning.specs.Loops.{Iter, Write, put_in, put_all, wrote, writes, ends_of, end_of, texts, text_of, indices, no_rules, body_frame, start_of, output_of}
@@ -56,7 +56,7 @@ printed old new ts e = let same : map Byte new ≡ map Byte old ++ ts = cc in sh
 ended_so : (o : Outcome) (end : Workspace) (old new : List ℕ) → Carries o (Ok (ended.Done end)) (printer_log old) (printer_log new) → Ran o (Ok (Ok end)) old new
 ended_so o end old new h = (h.0, printed old new o.shown h.1.0)
 
-module _ (program : Resolved) (turns depth : ℕ) (q : Question) (env : Workspace) where
+module _ (program : Resolved) (turns depth : ℕ) (q : LoopQuestion) (env : Workspace) where
   -- the run of a body that is done is an iteration's
   pub ran : (i : ℤ) (f : Frame) (start : Workspace) (r : Ended) (end : Workspace) (old new : List ℕ) → f ≡ body_frame q → start ≡ start_of program q env i → r ≡ ended.Done end → Carries (run_of program f q.body start turns depth no_rules []) (Ok r) (printer_log old) (printer_log new) → Ran (Iter program turns depth q env i) (Ok (Ok end)) old new
   unfolding Iter

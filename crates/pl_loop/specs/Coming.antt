@@ -13,7 +13,7 @@ use Rattle.pl_syntax.specs.declared.expr.Name.{Name}
 use Rattle.pl_meaning.specs.declared.event.Answer.TheVariants as answer
 use Rattle.pl_meaning.specs.declared.event.Output.{Output}
 use Rattle.pl_meaning.specs.declared.event.Clash.{Clash}
-use Rattle.pl_meaning.specs.Logs.{Workspace, Question}
+use Rattle.pl_meaning.specs.Logs.{Workspace, LoopQuestion}
 use Rattle.pl_meaning.specs.Running.{Outcome, Done as Ended, Raised}
 use Rattle.pl_meaning.specs.Loops.{Write, own_places, put_in, put_all, wrote, writes, text_of, texts, all_done, output_of, name_at, clash_error}
 use Rattle.pl_loop.specs.declared.variables.Variable.{Variable}
@@ -69,7 +69,7 @@ Ran o (Ok (Ok end)) old new = (o.ending ≡ Ended end []) × (new ≡ old ++ tex
 Ran o (Ok (Err e)) old new = o.ending ≡ Raised e []
 Ran o (Err e) old new = Unit {0}
 
-module _ (program : Resolved) (turns depth : ℕ) (q : Question) (env : Workspace) where
+module _ (program : Resolved) (turns depth : ℕ) (q : LoopQuestion) (env : Workspace) where
   -- of all iterations some are to come still: what all come to is what these come to behind the text and the variables so far
   pub record Stands (all rest : List ℤ) (first : List Variable) (text : List ℕ) (now : List Variable) : Type 0 where
     pub done : all_done program turns depth q env all ≡ all_done program turns depth q env rest
@@ -83,6 +83,6 @@ abbrev pub whole : ℕ → List (List ℕ)
 whole count = if count == 0 then [] else (count ∷ []) ∷ []
 
 -- a loop of which no iteration raised
-abbrev pub ending_of : Resolved → Question → List ℕ → Result (List Output) Clash → Done
+abbrev pub ending_of : Resolved → LoopQuestion → List ℕ → Result (List Output) Clash → Done
 ending_of program q text (Ok outs) = record { choice = choice.Runs (record { runs = whole q.count }); answer = answer.Looped (record { text = text; outputs = outs }) }
 ending_of program q text (Err c) = record { choice = choice.Merge (name_at program q c.slot); answer = answer.Raised (clash_error program q c) }

@@ -11,7 +11,7 @@ use Rattle.pl_values.specs.declared.value.Value.{Value}
 use Rattle.pl_values.specs.Workspaces.{value_at}
 use Rattle.pl_operators.specs.Picking.{assign_value}
 use Rattle.pl_resolve.specs.declared.resolved.Resolved.{Resolved}
-use Rattle.pl_meaning.specs.Logs.{Workspace, Question, Log, Byte}
+use Rattle.pl_meaning.specs.Logs.{Workspace, LoopQuestion, Log, Byte}
 use Rattle.pl_meaning.specs.Names.{slot_of}
 use Rattle.pl_meaning.specs.Parts.{value_in, below}
 use Rattle.pl_meaning.specs.Promises.{At, Went}
@@ -21,7 +21,7 @@ use Rattle.pl_frame.specs.Ordering.{HasSlot, IsReady}
 use Rattle.pl_frame.specs.Rising.{suits}
 
 -- the body has the form, the index has a slot, and each variable that is written has an array or is new with the loop
-pub record Founded (program : Resolved) (q : Question) (env : Workspace) : Type 0 where
+pub record Founded (program : Resolved) (q : LoopQuestion) (env : Workspace) : Type 0 where
   pub form : is_form program (body_frame q) q.index q.body ≡ true
   pub index : HasSlot program q env
   pub ready : IsReady program q env
@@ -38,7 +38,7 @@ pub record Put (env : Workspace) (slot : ℕ) (i : ℤ) (v : Value) (old new : W
   pub leaves : new ≡ slice_set old slot (Some made)
 
 -- a variable of this name was assigned this expression's value: that is what the expression went on with
-pub record Assigned (program : Resolved) (depth : ℕ) (q : Question) (env : Workspace) (i : ℤ) (name : Name) (expr : Expr) (old new : At) : Type 0 where
+pub record Assigned (program : Resolved) (depth : ℕ) (q : LoopQuestion) (env : Workspace) (i : ℤ) (name : Name) (expr : Expr) (old new : At) : Type 0 where
   pub slot : ℕ
   pub slot_is : slot_of program (body_frame q) name.text ≡ Some slot
   pub gained : Value
@@ -48,7 +48,7 @@ pub record Assigned (program : Resolved) (depth : ℕ) (q : Question) (env : Wor
   pub log : new.log ≡ between.log
 
 -- a statement of a pass was carried out
-pub record Stepped (program : Resolved) (depth : ℕ) (q : Question) (env : Workspace) (i : ℤ) (s : Stmt) (old new : At) : Type 0 where
+pub record Stepped (program : Resolved) (depth : ℕ) (q : LoopQuestion) (env : Workspace) (i : ℤ) (s : Stmt) (old new : At) : Type 0 where
   pub name : Name
   pub list : List Expr
   pub expr : Expr

@@ -3,7 +3,7 @@
 ghost use Rattle.std.specs.Prelude.{◌≡◌, ℕ, List, Ok, IfOk};
 ghost use Rattle.pl_base.specs.declared.choice.Choice.{Choice};
 ghost use Rattle.pl_meaning.specs.declared.event.Answer.{Answer};
-ghost use Rattle.pl_meaning.specs.Logs.{question_of};
+ghost use Rattle.pl_meaning.specs.Logs.{loop_question};
 ghost use Rattle.pl_meaning.specs.Loops.{headed as heading};
 ghost use Rattle.pl_resolve.specs.declared.resolved.Resolved.{Resolved};
 ghost use Rattle.pl_frame.specs.Rising.{outputs_in};
@@ -41,7 +41,7 @@ fn done(
     text: Vec<u8>,
     outputs: Seq<Output>,
 ) -> Result<Done, NoMemory>
-    ensures { IfOk result (λ d. (program : Resolved) → d ≡ ending_of program (question_of question.entry) text.items (Ok outputs)) }
+    ensures { IfOk result (λ d. (program : Resolved) → d ≡ ending_of program (loop_question question.entry) text.items (Ok outputs)) }
 {
     let bracket = whole(alloc, question.count)?;
     Ok(Done {
@@ -60,7 +60,7 @@ fn clashed(
     question: Loop<'_>,
     clash: Clash,
 ) -> Result<Done, NoMemory>
-    ensures { IfOk result (λ d. (text : List ℕ) → d ≡ ending_of program.now (question_of question.entry) text (Err clash)) }
+    ensures { IfOk result (λ d. (text : List ℕ) → d ≡ ending_of program.now (loop_question question.entry) text (Err clash)) }
 {
     let name = name_of(alloc, program, question, clash.slot)?;
     let error = clash_error(alloc, program, question, &clash)?;
@@ -78,7 +78,7 @@ pub(crate) fn finish_passed(
     slots: &[u32],
 ) -> Result<Done, NoMemory>
     requires { EachOnce slots.now }
-    ensures { IfOk result (λ d. (program : Resolved) → d ≡ ending_of program (question_of question.entry) passed.entry.text.items (Ok (outputs_in passed.entry.env slots.now))) }
+    ensures { IfOk result (λ d. (program : Resolved) → d ≡ ending_of program (loop_question question.entry) passed.entry.text.items (Ok (outputs_in passed.entry.env slots.now))) }
 {
     let Passed { env, text } = passed;
     let outputs = take_outputs(alloc, slots, env)?;
@@ -92,7 +92,7 @@ pub(crate) fn finish(
     question: Loop<'_>,
     joined: Joined,
 ) -> Result<Done, NoMemory>
-    ensures { IfOk result (λ d. d ≡ ending_of program.now (question_of question.entry) joined.text.items (outputs_by no_writes joined.variables.items)) }
+    ensures { IfOk result (λ d. d ≡ ending_of program.now (loop_question question.entry) joined.text.items (outputs_by no_writes joined.variables.items)) }
 {
     let Joined { text, variables } = joined;
     match settle(alloc, variables)? {

@@ -1,7 +1,7 @@
 //! The errors of a loop: of which iteration or which variable, and why.
 
 ghost use Rattle.std.specs.Prelude.{◌≡◌, IfOk};
-ghost use Rattle.pl_meaning.specs.Logs.{question_of};
+ghost use Rattle.pl_meaning.specs.Logs.{loop_question};
 ghost use Rattle.pl_meaning.specs.Loops.{headed as heading, name_at, clash_error as clashing};
 
 use itoa::Buffer;
@@ -34,7 +34,7 @@ pub(crate) fn name_of(
     question: Loop<'_>,
     slot: u32,
 ) -> Result<Text, NoMemory>
-    ensures { IfOk result (λ name. name ≡ name_at program.now (question_of question.entry) slot) }
+    ensures { IfOk result (λ name. name ≡ name_at program.now (loop_question question.entry) slot) }
 {
     let Some(scope) = program.scopes.items().get(question.scope) else {
         return Text::of(alloc, b"");
@@ -52,7 +52,7 @@ pub(crate) fn clash_error(
     question: Loop<'_>,
     clash: &Clash,
 ) -> Result<ScriptError, NoMemory>
-    ensures { IfOk result (λ e. e ≡ clashing program.now (question_of question.entry) clash.now) }
+    ensures { IfOk result (λ e. e ≡ clashing program.now (loop_question question.entry) clash.now) }
 {
     let name = name_of(alloc, program, question, clash.slot)?;
     let mut text = Vec::from_slice(alloc, b"variable ")?;

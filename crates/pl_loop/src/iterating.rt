@@ -1,7 +1,7 @@
 //! The iterations, one after another, each by itself.
 
 ghost use Rattle.std.specs.Prelude.{◌≡◌, true, [], IfOk, IfErr, OnOk};
-ghost use Rattle.pl_meaning.specs.Logs.{question_of};
+ghost use Rattle.pl_meaning.specs.Logs.{loop_question};
 ghost use Rattle.pl_meaning.specs.Running.{Raised};
 ghost use Rattle.pl_meaning.specs.Loops.{Iter, body_frame as frame_of, start_of, indices, is_index};
 ghost use Rattle.pl_loop.specs.Coming.{Ran, Stands};
@@ -30,11 +30,12 @@ pub(crate) struct Failed {
     pub(crate) error: ScriptError,
 }
 
-/// Where the statements of a body stand.
+/// Where the statements of a body stand: away from the client.
 pub(crate) fn body_frame(question: Loop<'_>) -> Frame
-    ensures { result ≡ frame_of (question_of question.entry) }
+    ensures { result ≡ frame_of (loop_question question.entry) }
 {
     Frame {
+        client: false,
         scope: question.scope,
         given: 0,
         wanted: 0,
@@ -49,7 +50,7 @@ pub(crate) fn set_index(
     env: &mut Env<'_>,
     i: i64,
 ) -> Result<(), NoMemory>
-    ensures { OnOk result (env.new ≡ start_of program.now (question_of question.entry) env.old i) }
+    ensures { OnOk result (env.new ≡ start_of program.now (loop_question question.entry) env.old i) }
 {
     match slot_of(program, body_frame(question), &question.index.text) {
         Some(slot) => env.set(slot, number(i)),
@@ -65,7 +66,7 @@ fn start<'s>(
     env: &'s Env<'_>,
     i: i64,
 ) -> Result<Env<'s>, NoMemory>
-    ensures { IfOk result (λ e. e ≡ start_of program.now (question_of question.entry) env.now i) }
+    ensures { IfOk result (λ e. e ≡ start_of program.now (loop_question question.entry) env.now i) }
 {
     let mut start = Env::over(alloc, env)?;
     set_index(program, question, &mut start, i)?;
@@ -84,7 +85,7 @@ pub(crate) fn iterate<'s>(
     i: i64,
     printer: &mut Printer,
 ) -> Result<Result<Env<'s>, ScriptError>, NoMemory>
-    ensures { Ran (Iter program.now turns depth (question_of question.entry) env.now i) result printer.old.text.items printer.new.text.items }
+    ensures { Ran (Iter program.now turns depth (loop_question question.entry) env.now i) result printer.old.text.items printer.new.text.items }
 {
     let frame = body_frame(question);
     let start = start(alloc, program, question, env, i)?;
@@ -115,9 +116,9 @@ pub(crate) fn iterate_all(
     depth: u32,
     variables: Vec<Variable>,
 ) -> Result<Result<Joined, Failed>, NoMemory>
-    ensures done { IfOk result (λ r. IfOk r (λ joined. Stands program.now turns depth (question_of question.entry) env.now (indices question.entry.first question.entry.count) [] variables.items joined.text.items joined.variables.items)) }
-    ensures index { IfOk result (λ r. IfErr r (λ failed. is_index (question_of question.entry) failed.i ≡ true)) }
-    ensures raised { IfOk result (λ r. IfErr r (λ failed. (Iter program.now turns depth (question_of question.entry) env.now failed.i).ending ≡ Raised failed.error [])) }
+    ensures done { IfOk result (λ r. IfOk r (λ joined. Stands program.now turns depth (loop_question question.entry) env.now (indices question.entry.first question.entry.count) [] variables.items joined.text.items joined.variables.items)) }
+    ensures index { IfOk result (λ r. IfErr r (λ failed. is_index (loop_question question.entry) failed.i ≡ true)) }
+    ensures raised { IfOk result (λ r. IfErr r (λ failed. (Iter program.now turns depth (loop_question question.entry) env.now failed.i).ending ≡ Raised failed.error [])) }
 {
     let mut printer = Printer {
         text: Vec::new(alloc),

@@ -2,7 +2,7 @@
 
 ghost use Rattle.std.specs.Prelude.{◌≡◌, ℕ, true, IfOk};
 ghost use Rattle.std.specs.Option.{option_copied};
-ghost use Rattle.pl_meaning.specs.Logs.{question_of};
+ghost use Rattle.pl_meaning.specs.Logs.{loop_question};
 ghost use Rattle.pl_meaning.specs.Promises.{at};
 ghost use Rattle.pl_frame.specs.Rising.{suits as suits_in, is_array as is_array_in, Pass, Risen};
 ghost use Rattle.pl_values.specs.declared.value.Value.{out-Value};
@@ -78,7 +78,7 @@ fn assign(
     name: &Name,
     e: &Expr,
 ) -> Result<bool, NoMemory>
-    ensures { IfOk result (λ is. is ≡ true → Assigned program.now depth (question_of question.entry) env.now i name.now e.now (at memory.old (printer_log printer.old.text.items)) (at memory.new (printer_log printer.new.text.items))) }
+    ensures { IfOk result (λ is. is ≡ true → Assigned program.now depth (loop_question question.entry) env.now i name.now e.now (at memory.old (printer_log printer.old.text.items)) (at memory.new (printer_log printer.new.text.items))) }
 {
     let frame = body_frame(question);
     let Some(slot) = slot_of(program, frame, &name.text) else {
@@ -108,7 +108,7 @@ fn step(
     i: i64,
     s: &Stmt,
 ) -> Result<bool, NoMemory>
-    ensures { IfOk result (λ is. is ≡ true → Stepped program.now depth (question_of question.entry) env.now i s.now (at memory.old (printer_log printer.old.text.items)) (at memory.new (printer_log printer.new.text.items))) }
+    ensures { IfOk result (λ is. is ≡ true → Stepped program.now depth (loop_question question.entry) env.now i s.now (at memory.old (printer_log printer.old.text.items)) (at memory.new (printer_log printer.new.text.items))) }
 {
     match &s.kind {
         StmtKind::Assign(target, e) => match target {
@@ -133,7 +133,7 @@ pub(crate) fn pass(
     printer: &mut Printer,
     i: i64,
 ) -> Result<bool, NoMemory>
-    ensures { IfOk result (λ is. is ≡ true → Founded program.now (question_of question.entry) env.now → (k : ℕ) → Risen program.now depth (question_of question.entry) env.now k memory.old.env printer.old.text.items → Pass program.now depth (question_of question.entry) env.now i memory.old.env printer.old.text.items memory.new.env printer.new.text.items) }
+    ensures { IfOk result (λ is. is ≡ true → Founded program.now (loop_question question.entry) env.now → (k : ℕ) → Risen program.now depth (loop_question question.entry) env.now k memory.old.env printer.old.text.items → Pass program.now depth (loop_question question.entry) env.now i memory.old.env printer.old.text.items memory.new.env printer.new.text.items) }
 {
     set_index(program, question, &mut memory.env, i)?;
     for s in question.body.as_slice() {

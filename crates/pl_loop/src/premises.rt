@@ -1,7 +1,7 @@
 //! What is tested before the passes of a loop run over one workspace.
 
 ghost use Rattle.std.specs.Prelude.{◌≡◌, ◌<◌, ℕ, Some, true, length, ◌⊎◌, IfOk};
-ghost use Rattle.pl_meaning.specs.Logs.{question_of};
+ghost use Rattle.pl_meaning.specs.Logs.{loop_question};
 ghost use Rattle.pl_meaning.specs.Loops.{written_slots};
 ghost use Rattle.pl_frame.specs.Ordering.{Each, HasArray, HasSlot, IsNew};
 ghost use Rattle.pl_loop.specs.Passes.{Founded};
@@ -42,7 +42,7 @@ fn all_ready(env: &Env<'_>, slots: &[u32]) -> bool
 
 /// Whether the index has a slot in the workspace.
 fn has_index(program: &Resolved, question: Loop<'_>, env: &Env<'_>) -> bool
-    ensures { result ≡ true → HasSlot program.now (question_of question.entry) env.now }
+    ensures { result ≡ true → HasSlot program.now (loop_question question.entry) env.now }
 {
     match slot_of(program, body_frame(question), &question.index.text) {
         Some(slot) => (slot as usize) < env.len(),
@@ -58,8 +58,8 @@ pub(crate) fn is_founded(
     env: &Env<'_>,
     slots: &[u32],
 ) -> Result<bool, NoMemory>
-    requires { slots.now ≡ written_slots program.now (question_of question) }
-    ensures { IfOk result (λ is. is ≡ true → Founded program.now (question_of question.entry) env.now) }
+    requires { slots.now ≡ written_slots program.now (loop_question question) }
+    ensures { IfOk result (λ is. is ≡ true → Founded program.now (loop_question question.entry) env.now) }
 {
     let fits = is_form(
         alloc,

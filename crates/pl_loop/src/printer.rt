@@ -1,7 +1,7 @@
 //! The world of an iteration.
 
 use pl_base::Or;
-use pl_meaning::{Answer, Event, Loop, Stop, World};
+use pl_meaning::{Answer, Event, Question, Stop, World};
 use pl_values::Env;
 
 /// A world that keeps what it is told to print, and answers nothing.
@@ -26,7 +26,10 @@ impl World for Printer {
         }
     }
 
-    fn ask(&mut self, _env: &Env<'_>, _question: Loop<'_>) -> Result<Answer, Or<Stop>> {
-        Err(Or::Memory)
+    fn ask(&mut self, _env: &Env<'_>, question: Question<'_>) -> Result<Answer, Or<Stop>> {
+        match question {
+            Question::Loop(_) => Err(Or::Memory),
+            Question::Extra(_, _operands, _) => Err(Or::Memory),
+        }
     }
 }

@@ -5,7 +5,7 @@
 //! write to it.
 
 ghost use Rattle.std.specs.Prelude.{◌≡◌, ◌++◌, [], true, IfOk, IfErr, OnOk};
-ghost use Rattle.pl_meaning.specs.Logs.{question_of};
+ghost use Rattle.pl_meaning.specs.Logs.{loop_question};
 ghost use Rattle.pl_meaning.specs.Loops.{is_index};
 ghost use Rattle.pl_frame.specs.Rising.{Risen, output_with, outputs_in};
 ghost use Rattle.pl_loop.specs.Passes.{EachOnce, Founded};
@@ -34,12 +34,13 @@ pub(crate) fn rise<'s>(
     turns: u64,
     depth: u32,
 ) -> Result<Result<Passed<'s>, i64>, NoMemory>
-    ensures done { IfOk result (λ r. IfOk r (λ passed. Founded program.now (question_of question.entry) env.now → Risen program.now depth (question_of question.entry) env.now question.entry.count passed.env passed.text.items)) }
-    ensures index { IfOk result (λ r. IfErr r (λ i. is_index (question_of question.entry) i ≡ true)) }
+    ensures done { IfOk result (λ r. IfOk r (λ passed. Founded program.now (loop_question question.entry) env.now → Risen program.now depth (loop_question question.entry) env.now question.entry.count passed.env passed.text.items)) }
+    ensures index { IfOk result (λ r. IfErr r (λ i. is_index (loop_question question.entry) i ≡ true)) }
 {
     let mut memory = Memory {
         env: Env::over(alloc, env)?,
         turns,
+        calls: 0,
     };
     let mut printer = Printer {
         text: Vec::new(alloc),

@@ -1,8 +1,8 @@
 //! A loop over workers, from its question to its answer.
 
 ghost use Rattle.std.specs.Prelude.{◌≡◌, Some, true, IfOk};
-ghost use Rattle.pl_meaning.specs.Logs.{question_of};
-ghost use Rattle.pl_meaning.specs.Loops.{loop_rules, is_index, written_slots as slots_written};
+ghost use Rattle.pl_meaning.specs.Logs.{loop_question};
+ghost use Rattle.pl_meaning.specs.Loops.{loop_answer, is_index, written_slots as slots_written};
 ghost use Rattle.pl_loop.specs.Passes.{Founded};
 
 use crate::choosing::{fall, finish, finish_passed};
@@ -35,8 +35,8 @@ fn by_iterations(
     depth: u32,
     slots: &[u32],
 ) -> Result<Done, NoMemory>
-    requires { slots.now ≡ slots_written program.now (question_of question) }
-    ensures { IfOk result (λ d. loop_rules program.now turns depth (question_of question.entry) env.now d.choice ≡ Some d.answer) }
+    requires { slots.now ≡ slots_written program.now (loop_question question) }
+    ensures { IfOk result (λ d. loop_answer program.now turns depth (loop_question question.entry) env.now d.choice ≡ Some d.answer) }
 {
     let variables = begin_all(alloc, env, slots)?;
     match iterate_all(alloc, program, question, env, turns, depth, variables)? {
@@ -56,9 +56,9 @@ fn by_one(
     slots: &[u32],
     i: i64,
 ) -> Result<Done, NoMemory>
-    requires slots { slots.now ≡ slots_written program.now (question_of question) }
-    requires index { is_index (question_of question) i ≡ true }
-    ensures { IfOk result (λ d. loop_rules program.now turns depth (question_of question.entry) env.now d.choice ≡ Some d.answer) }
+    requires slots { slots.now ≡ slots_written program.now (loop_question question) }
+    requires index { is_index (loop_question question) i ≡ true }
+    ensures { IfOk result (λ d. loop_answer program.now turns depth (loop_question question.entry) env.now d.choice ≡ Some d.answer) }
 {
     let mut printer = Printer {
         text: Vec::new(alloc),
@@ -79,9 +79,9 @@ fn by_passes(
     depth: u32,
     slots: &[u32],
 ) -> Result<Done, NoMemory>
-    requires slots { slots.now ≡ slots_written program.now (question_of question) }
-    requires founded { Founded program.now (question_of question) env.now }
-    ensures { IfOk result (λ d. loop_rules program.now turns depth (question_of question.entry) env.now d.choice ≡ Some d.answer) }
+    requires slots { slots.now ≡ slots_written program.now (loop_question question) }
+    requires founded { Founded program.now (loop_question question) env.now }
+    ensures { IfOk result (λ d. loop_answer program.now turns depth (loop_question question.entry) env.now d.choice ≡ Some d.answer) }
 {
     match rise(alloc, program, question, env, turns, depth)? {
         Ok(passed) => finish_passed(alloc, question, passed, slots),
@@ -99,7 +99,7 @@ pub fn run_loop(
     turns: u64,
     depth: u32,
 ) -> Result<Done, NoMemory>
-    ensures { IfOk result (λ d. loop_rules program.now turns depth (question_of question.entry) env.now d.choice ≡ Some d.answer) }
+    ensures { IfOk result (λ d. loop_answer program.now turns depth (loop_question question.entry) env.now d.choice ≡ Some d.answer) }
 {
     let slots = loop_slots(alloc, program, question)?;
     if is_founded(alloc, program, question, env, &slots)? {

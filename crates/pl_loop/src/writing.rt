@@ -6,7 +6,7 @@ ghost use Rattle.std.specs.Option.{option_copied};
 ghost use Rattle.pl_syntax.specs.declared.stmt.Stmt.{out-Stmt};
 ghost use Rattle.pl_syntax.specs.declared.stmt.StmtKind.{out-StmtKind};
 ghost use Rattle.pl_meaning.specs.Parts.{written_in, written_by};
-ghost use Rattle.pl_meaning.specs.Logs.{question_of};
+ghost use Rattle.pl_meaning.specs.Logs.{loop_question};
 ghost use Rattle.pl_meaning.specs.Loops.{with_one, slots_from, written_slots as slots_of_loop};
 ghost use Rattle.pl_loop.specs.Coming.{maybe};
 
@@ -75,7 +75,7 @@ pub(crate) fn loop_slots(
     program: &Resolved,
     question: Loop<'_>,
 ) -> Result<Vec<u32>, NoMemory>
-    ensures { IfOk result (λ slots. slots.items ≡ slots_of_loop program.now (question_of question.entry)) }
+    ensures { IfOk result (λ slots. slots.items ≡ slots_of_loop program.now (loop_question question.entry)) }
 {
     written_slots(
         alloc,

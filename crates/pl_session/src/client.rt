@@ -1,10 +1,15 @@
 //! The world of a script that runs on the client: what it prints goes to a sink as it comes, and its loops over workers
-//! are carried out where they are asked for. The choices under which they are answered are kept.
+//! are carried out where they are asked for. The choices under which they are answered are kept. An extra is refused:
+//! nothing that is built so far brings one.
 
-use pl_base::{Choice, Or, Seq};
+ghost use Rattle.std.specs.Prelude.{◌≡◌, IfOk};
+ghost use Rattle.pl_meaning.specs.Loops.{no_extra};
+
+use pl_base::{Choice, ErrKind, NoMemory, Or, Seq, Text};
+use pl_errors::message;
 use pl_io::{Sink, WriteFault, write_all};
 use pl_loop::run_loop;
-use pl_meaning::{Answer, Event, Loop, Stop, World};
+use pl_meaning::{Answer, Event, ExtraAnswer, Question, Stop, World};
 use pl_resolve::Resolved;
 use pl_values::Env;
 use std::alloc::Global;
@@ -24,6 +29,15 @@ pub(crate) struct Client<'k, K> {
     pub(crate) out: &'k mut K,
 }
 
+/// The answer to an extra.
+fn refused(alloc: Global) -> Result<Answer, NoMemory>
+    ensures { IfOk result (λ answer. answer ≡ no_extra) }
+{
+    let text = Text::of(alloc, message(ErrKind::WrongPlace).as_bytes())?;
+    let raised = ExtraAnswer::Raised(ErrKind::WrongPlace, text, None);
+    Ok(Answer::Extra(raised, Text::of(alloc, b"")?, 0))
+}
+
 impl<K: Sink> World for Client<'_, K> {
     ghost use Rattle.std.specs.Prelude.{Some};
     ghost use Rattle.pl_meaning.specs.Loops.{loop_rules};
@@ -40,9 +54,17 @@ impl<K: Sink> World for Client<'_, K> {
         }
     }
 
-    fn ask(&mut self, env: &Env<'_>, question: Loop<'_>) -> Result<Answer, Or<Stop>> {
-        let done = run_loop(self.alloc, self.program, question, env, self.turns, DEPTH)?;
-        self.entries.push(done.choice)?;
-        Ok(done.answer)
+    fn ask(&mut self, env: &Env<'_>, question: Question<'_>) -> Result<Answer, Or<Stop>> {
+        match question {
+            Question::Loop(asked) => {
+                let done = run_loop(self.alloc, self.program, asked, env, self.turns, DEPTH)?;
+                self.entries.push(done.choice)?;
+                Ok(done.answer)
+            }
+            Question::Extra(_, _operands, _) => {
+                let answer = refused(self.alloc)?;
+                Ok(answer)
+            }
+        }
     }
 }
