@@ -1,0 +1,5 @@
+use Rattle.pl_doors.proofs.tests.program.Goals as goal
+
+-- tokens of a source are ranges of it
+pub parse-requires-clause-ranges : goal.parse-requires-clause-ranges
+parse-requires-clause-ranges c = rw c.deref.ensures.value (c.token_ranges.ensures c.args.source.now c.in-Ok.tokens.items c.in-Ok.ensures.found)
