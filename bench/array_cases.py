@@ -1,6 +1,6 @@
 """Cases for the elementwise operators, by exact arithmetic on Python's whole numbers and fractions.
 
-Writes the table CASES in crates/pl_array/src/tests.rt, a case a line: the operator's place in Op2, the two numbers,
+Writes the table CASES in crates/array_tests/src/array.rt, a case a line: the operator's place in Op2, the two numbers,
 the number that the clamping mode answers, and 0, or 1 where the strict mode refuses it as Overflow, or 2 where
 both modes refuse it as a negative power.
 

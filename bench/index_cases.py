@@ -1,4 +1,4 @@
-"""Writes the table of crates/pl_index/src/tests.rt: what each call answers on small arrays, worked by the rules
+"""Writes the table of crates/array_tests/src/index.rt: what each call answers on small arrays, worked by the rules
 with dictionaries of cells by row and column, and knowing nothing of the crate."""
 import itertools, random
 

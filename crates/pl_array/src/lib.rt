@@ -30,6 +30,3 @@ pub use join::{concat_h, concat_v};
 pub use ops::{Op1, Op2};
 pub use turn::transpose;
 pub use unary::{map1, map1_in};
-
-#[cfg(test)]
-mod tests;

@@ -18,6 +18,3 @@ mod totals;
 
 pub use calling::{call, call_in};
 pub use name::Builtin;
-
-#[cfg(test)]
-mod tests;

@@ -10,6 +10,3 @@ mod raising;
 
 pub use kinds::{message, name, number};
 pub use raising::{raise, write_line};
-
-#[cfg(test)]
-mod tests;

@@ -17,6 +17,3 @@ pub use assigning::{assign, assign_new};
 pub use deleting::delete;
 pub use index::{Index, Pos};
 pub use selecting::select;
-
-#[cfg(test)]
-mod tests;

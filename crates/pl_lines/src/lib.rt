@@ -13,6 +13,3 @@ mod runs;
 pub use dim::{Dim, default_dim};
 pub use folds::{Fold, fold_lines};
 pub use runs::{LineRule, line_cells, map_lines};
-
-#[cfg(test)]
-mod tests;

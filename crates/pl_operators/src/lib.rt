@@ -36,6 +36,3 @@ pub use picking::{delete_value, select_value};
 pub use ranging::range;
 pub use showing::shown;
 pub use truth::{case_fits, condition, logical, switch};
-
-#[cfg(test)]
-mod tests;

@@ -16,6 +16,3 @@ mod statements;
 mod words;
 
 pub use printing::print;
-
-#[cfg(test)]
-mod tests;

@@ -24,6 +24,3 @@ pub use resolved::Resolved;
 pub use resolving::{resolve, resolve_beside};
 pub use scope::Scope;
 pub use statements::occurrences;
-
-#[cfg(test)]
-mod tests;

@@ -21,6 +21,3 @@ pub use call::{call_set, call_set_in};
 pub use laws::{distinct_cells_rise, in_order_is_a_stable_sort, names_differ};
 pub use order::Way;
 pub use set_fn::SetFn;
-
-#[cfg(test)]
-mod tests;

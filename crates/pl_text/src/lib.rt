@@ -13,8 +13,6 @@ mod items;
 mod literal;
 mod numerals;
 mod pattern;
-#[cfg(test)]
-mod tests;
 
 pub use displayed::{disp_text, named_text};
 pub use formatted::format;

@@ -14,6 +14,3 @@ mod value;
 
 pub use env::Env;
 pub use value::{CoPart, PartScheme, Serial, Value};
-
-#[cfg(test)]
-mod tests;

@@ -2,10 +2,10 @@
 
 ghost use Rattle.std.specs.Prelude.{◌≤◌, length};
 
-use crate::printing::print;
 use pl_base::Or;
 use pl_lex::{lex, token_ranges};
 use pl_parse::parse;
+use pl_print::print;
 use std::alloc::{AllocError, Global};
 
 /// A source with `$` for each line end, and its text.

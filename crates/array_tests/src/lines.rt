@@ -5,9 +5,9 @@ ghost use Rattle.std.specs.Ordering.{int_eq};
 ghost use Rattle.pl_base.specs.Numbers.{clamp};
 ghost use Rattle.pl_array.specs.declared.class.Class.{Class};
 
-use super::*;
 use pl_array::{Arr, Class, Shape};
 use pl_base::{ErrKind, Or};
+use pl_lines::{Dim, Fold, LineRule, default_dim, fold_lines, map_lines};
 use std::test::Fail;
 
 struct Total;

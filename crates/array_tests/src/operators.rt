@@ -1,8 +1,12 @@
 //! Each call on a few values, by one table. The answers were worked out by hand from the rules.
 
-use super::*;
-use pl_array::{Arr, Class, concat_h, concat_v};
+use crate::written::matrix;
+use pl_array::Class;
 use pl_base::{ErrKind, Mode, Or, Seq};
+use pl_operators::{
+    Argument, assign_value, binary, case_fits, chars, column, condition, delete_value, extent,
+    given, logical, number, range, rows, select_value, shown, switch, unary,
+};
 use pl_syntax::{Bin, Un};
 use pl_values::Value;
 use sqlite_items::Items;
@@ -82,25 +86,6 @@ end|P|0|1|!18
 for|1 2;3 4|1|x =~2~4~
 for|7 8|1|x = 8~";
 
-fn numbers(alloc: Global, text: &str) -> Result<Arr, Fail> {
-    let mut all = literals::nothing(alloc, Class::Int);
-    if !text.is_empty() {
-        for line in text.split(';') {
-            let row = numbers_in_row(alloc, line)?;
-            all = concat_v(alloc, &all, &row)?;
-        }
-    }
-    Ok(all)
-}
-
-fn numbers_in_row(alloc: Global, text: &str) -> Result<Arr, Fail> {
-    let mut row = literals::nothing(alloc, Class::Int);
-    for cell in text.split(' ') {
-        row = concat_h(alloc, &row, &Arr::scalar(cell.parse::<i64>()?))?;
-    }
-    Ok(row)
-}
-
 fn futures(alloc: Global, text: &str) -> Result<Value, Fail> {
     let mut calls = Seq::empty(alloc);
     for call in text.split(' ') {
@@ -118,7 +103,7 @@ fn value(alloc: Global, text: &str) -> Result<Value, Fail> {
     }
     match text.strip_prefix('\'') {
         Some(inside) => Ok(chars(alloc, inside.as_bytes())?),
-        None => Ok(Value::Array(numbers(alloc, text)?)),
+        None => Ok(Value::Array(matrix(alloc, Class::Int, text)?)),
     }
 }
 

@@ -3,9 +3,8 @@
 
 ghost use Rattle.std.specs.Prelude.{◌≤◌, length};
 
-use crate::lexer::lex;
-use crate::token::{Kind, Token};
 use pl_base::Or;
+use pl_lex::{Kind, Token, lex};
 use std::alloc::{AllocError, Global};
 
 const CASES: [(&str, &str); 68] = [

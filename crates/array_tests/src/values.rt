@@ -1,8 +1,8 @@
 //! Workspaces: what is written, emptied, copied and laid over a base.
 
-use crate::{Env, Value};
 use pl_array::Arr;
 use pl_base::NoMemory;
+use pl_values::{Env, Value};
 
 /// The number that a slot holds, and -1 where it is empty.
 fn number(env: &Env<'_>, slot: u32) -> i64 {

@@ -1,10 +1,14 @@
 //! The operators at the corners of the numbers, and each other call on small arrays.
 //!
-//! The table is written by `bench/array_cases.py`, which computes it exactly and knows nothing of this crate.
+//! The table is written by `bench/array_cases.py`, which computes it exactly and knows nothing of `pl_array`.
 
 ghost use Rattle.std.specs.Prelude.{◌≡◌, ◌≤◌, length, IfOk};
+ghost use Rattle.pl_array.specs.declared.class.Class.{Class};
 
-use super::*;
+use pl_array::{
+    Arr, Class, Op1, Op2, Shape, concat_h, concat_v, convert, map1, map1_in, map2, map2_in,
+    transpose,
+};
 use pl_base::{ErrKind, Mode, NoMemory, Or};
 use std::alloc::Global;
 

@@ -1,7 +1,7 @@
 //! Small programs: their scopes, and their unknown names.
 
-use crate::{NameFault, Resolved, resolve};
 use pl_base::{NoMemory, Or, Place, Seq, Text};
+use pl_resolve::{NameFault, Resolved, resolve};
 use pl_syntax::{Expr, ExprKind, Function, Name, Program, Stmt, StmtKind, Target};
 use sqlite_items::Items;
 use std::alloc::Global;

@@ -1,7 +1,7 @@
 //! One error and its line.
 
-use super::*;
 use pl_base::{ErrKind, Place};
+use pl_errors::{raise, write_line};
 use std::test::Fail;
 
 #[test]

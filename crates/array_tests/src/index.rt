@@ -1,14 +1,14 @@
 //! Each call on small arrays of every shape, by one table.
 //!
-//! Its answers were worked out by the rules, apart from this crate, in terms of rows and columns.
+//! Its answers were worked out by the rules, apart from `pl_index`, in terms of rows and columns.
 
 ghost use Rattle.std.specs.Prelude.{◌≡◌, ◌*◌, ◌≤◌, length};
 ghost use Rattle.std.specs.List.{All};
 ghost use Rattle.pl_array.specs.Arrays.{IsCell};
 
-use super::*;
 use pl_array::{Arr, Class, Shape};
 use pl_base::{ErrKind, NoMemory, Or};
+use pl_index::{Index, Pos, assign, assign_new, delete, select};
 use std::alloc::Global;
 
 // The call (select, assign, assign to no array, delete), the array, two positions (-1: there is no second one),

@@ -1,10 +1,11 @@
 //! Each function in each form of its arguments and with each of its refusals, by one table.
 //!
-//! The answers were worked out from the rules by a model in another language, with exact numbers, apart from this crate.
+//! The answers were worked out from the rules by a model in another language, with exact numbers, apart from `pl_builtin`.
 
-use super::*;
-use pl_array::{Arr, Class, Shape, concat_h, concat_v, convert};
+use crate::written::{characters, matrix};
+use pl_array::{Arr, Class, Shape};
 use pl_base::{ErrKind, Mode, Or};
+use pl_builtin::{Builtin, call, call_in};
 use std::alloc::Global;
 use std::test::Fail;
 
@@ -349,24 +350,19 @@ fn array(alloc: Global, text: &str) -> Result<Arr, Fail> {
         return characters(alloc, bytes);
     }
     if let Some(rows) = text.strip_prefix('n') {
-        return matrix(alloc, Class::Char, rows);
+        return of_class(alloc, Class::Char, rows);
     }
     if let Some(rows) = text.strip_prefix('l') {
-        return matrix(alloc, Class::Logical, rows);
+        return of_class(alloc, Class::Logical, rows);
     }
-    matrix(alloc, Class::Int, text.strip_prefix('i').ok_or("class")?)
+    of_class(alloc, Class::Int, text.strip_prefix('i').ok_or("class")?)
 }
 
-fn matrix(alloc: Global, class: Class, text: &str) -> Result<Arr, Fail> {
-    if let Some((rows, cols)) = text.split_once('x') {
-        return no_cells(alloc, class, rows.parse::<u32>()?, cols.parse::<u32>()?);
+fn of_class(alloc: Global, class: Class, text: &str) -> Result<Arr, Fail> {
+    match text.split_once('x') {
+        Some((rows, cols)) => no_cells(alloc, class, rows.parse::<u32>()?, cols.parse::<u32>()?),
+        None => matrix(alloc, class, text),
     }
-    let mut all = no_cells(alloc, Class::Int, 0, 0)?;
-    for line in text.split(';') {
-        let row = row_of(alloc, line)?;
-        all = concat_v(alloc, &all, &row)?;
-    }
-    Ok(convert(alloc, &all, class)?)
 }
 
 fn no_cells(alloc: Global, class: Class, rows: u32, cols: u32) -> Result<Arr, Fail> {
@@ -375,21 +371,4 @@ fn no_cells(alloc: Global, class: Class, rows: u32, cols: u32) -> Result<Arr, Fa
     } else {
         Err("extents".into())
     }
-}
-
-fn row_of(alloc: Global, text: &str) -> Result<Arr, Fail> {
-    let mut row = no_cells(alloc, Class::Int, 0, 0)?;
-    for cell in text.split(' ') {
-        row = concat_h(alloc, &row, &Arr::scalar(cell.parse::<i64>()?))?;
-    }
-    Ok(row)
-}
-
-/// A row of characters.
-fn characters(alloc: Global, text: &str) -> Result<Arr, Fail> {
-    let mut row = no_cells(alloc, Class::Char, 0, 0)?;
-    for byte in text.as_bytes() {
-        row = concat_h(alloc, &row, &Arr::scalar(i64::from(*byte)))?;
-    }
-    Ok(row)
 }

@@ -2,9 +2,9 @@
 
 ghost use Rattle.std.specs.Prelude.{◌≤◌, length};
 
-use crate::parsing::parse;
 use pl_base::Or;
 use pl_lex::{lex, token_ranges};
+use pl_parse::parse;
 use std::alloc::{AllocError, Global};
 
 /// A source with `$` for each line end, and its answer.

@@ -1,9 +1,10 @@
 //! Tables of displays, texts and formats, a row on each line. Each text was worked out by hand from the rules.
 //! In a row `~` stands for a line end, `_` for no argument.
 
-use super::*;
-use pl_array::{Arr, Class, Shape, concat_h, concat_v, convert};
+use crate::written::{characters, class_of, matrix, row};
+use pl_array::{Arr, Class};
 use pl_base::{ErrKind, Or};
+use pl_text::{disp_text, format, mat2str, named_text, num2str};
 use std::alloc::Global;
 use std::test::Fail;
 
@@ -71,39 +72,6 @@ x%dy|1 2|x1yx2y
 %%%d|1 2|%1%2
 %d %d\\n|1 2 3 4|1 2~3 4~";
 
-fn empty(alloc: Global, class: Class) -> Arr {
-    Arr::new(class, Shape { rows: 0, cols: 0 }, Vec::new(alloc))
-}
-
-/// The array of rows of cells, converted to the class.
-fn matrix(alloc: Global, class: Class, text: &str) -> Result<Arr, Fail> {
-    let mut all = empty(alloc, Class::Int);
-    if !text.is_empty() {
-        for line in text.split(';') {
-            let row = row_of(alloc, line)?;
-            all = concat_v(alloc, &all, &row)?;
-        }
-    }
-    Ok(convert(alloc, &all, class)?)
-}
-
-fn row_of(alloc: Global, text: &str) -> Result<Arr, Fail> {
-    let mut row = empty(alloc, Class::Int);
-    for cell in text.split(' ') {
-        row = concat_h(alloc, &row, &Arr::scalar(cell.parse::<i64>()?))?;
-    }
-    Ok(row)
-}
-
-/// A row of characters.
-fn characters(alloc: Global, text: &str) -> Result<Arr, Fail> {
-    let mut row = empty(alloc, Class::Char);
-    for byte in text.as_bytes() {
-        row = concat_h(alloc, &row, &Arr::scalar(i64::from(*byte)))?;
-    }
-    Ok(row)
-}
-
 /// A text with `~` for its line ends.
 fn on_a_line(alloc: Global, text: &[u8]) -> Result<Vec<u8>, Fail> {
     let mut line = Vec::new(alloc);
@@ -116,7 +84,7 @@ fn on_a_line(alloc: Global, text: &[u8]) -> Result<Vec<u8>, Fail> {
 fn argument(alloc: Global, text: &str) -> Result<Arr, Fail> {
     match text.strip_prefix('\'') {
         Some(inside) => characters(alloc, inside),
-        None => row_of(alloc, text),
+        None => row(alloc, text),
     }
 }
 
@@ -128,14 +96,6 @@ fn arguments(alloc: Global, text: &str) -> Result<Vec<Arr>, Fail> {
         }
     }
     Ok(args)
-}
-
-fn class_of(letter: &str) -> Class {
-    match letter {
-        "c" => Class::Char,
-        "l" => Class::Logical,
-        _ => Class::Int,
-    }
 }
 
 #[test]
@@ -156,10 +116,7 @@ fn arrays(rt: HostRuntime) -> Result<(), Fail> {
             on_a_line(alloc, named_text(alloc, b"x", &a)?.as_slice())?.as_slice(),
             named.as_bytes()
         );
-        assert_eq!(rt;
-            items::characters_of(alloc, &mat2str(alloc, &a)?)?.as_slice(),
-            literal.as_bytes()
-        );
+        assert_eq!(rt; mat2str(alloc, &a)?, characters(alloc, literal)?);
     }
     Ok(())
 }
@@ -167,16 +124,16 @@ fn arrays(rt: HostRuntime) -> Result<(), Fail> {
 #[test]
 fn numerals(rt: HostRuntime) -> Result<(), Fail> {
     let alloc = rt.alloc();
-    for line in "1 22| 1  22
-5|5
-1;10| 110"
+    for line in "1 22|x = ' 1  22'~
+5|x = '5'~
+1;10|x =~ 1~10~"
         .lines()
     {
-        let (cells, text) = line.split_once('|').ok_or("text")?;
+        let (cells, named) = line.split_once('|').ok_or("text")?;
         let made = num2str(alloc, &matrix(alloc, Class::Int, cells)?)?;
         assert_eq!(rt;
-            items::characters_of(alloc, &made)?.as_slice(),
-            text.as_bytes()
+            on_a_line(alloc, named_text(alloc, b"x", &made)?.as_slice())?.as_slice(),
+            named.as_bytes()
         );
     }
     Ok(())

@@ -1,7 +1,7 @@
 //! The calls with ample memory, and the real files and sinks, of which no clause tells the content.
 
-use crate::{MemFiles, MemSink, ReadFault, RealFiles, RealSink, Sink, read_all, write_all};
 use pl_base::{NoMemory, Or, Text};
+use pl_io::{Failed, MemFiles, MemSink, ReadFault, RealFiles, RealSink, Sink, read_all, write_all};
 use std::alloc::Global;
 use std::fs::File;
 use std::test::Fail;
@@ -67,6 +67,36 @@ fn a_sink_takes_what_it_has_room_for(rt: HostRuntime) -> Result<(), Fail> {
     assert_eq!(rt; write_all(&mut second_fails, b"ab").is_ok(), true);
     assert_eq!(rt; write_all(&mut second_fails, b"c").is_err(), true);
     assert_eq!(rt; second_fails.written(), b"ab".as_slice());
+    Ok(())
+}
+
+/// A sink that takes one byte of a piece at a time.
+#[derive(Drop)]
+struct OneByte<K: Sink> {
+    sink: K,
+}
+
+impl<K: Sink> Sink for OneByte<K> {
+    ghost written = { λ s. K.written s.sink };
+
+    ghost faults = { λ s. K.faults s.sink };
+
+    fn write(&mut self, piece: &[u8]) -> Result<usize, Failed> {
+        let few = piece.len().min(1);
+        self.sink.write(&piece[..few])
+    }
+}
+
+#[test]
+fn a_sink_that_takes_a_byte_at_a_time_is_given_all(rt: HostRuntime) -> Result<(), Fail> {
+    let sink = MemSink::new(rt.alloc(), 9, vec![in rt.alloc()]?)?;
+    let mut one_byte = OneByte { sink };
+    assert_eq!(rt; write_all(&mut one_byte, b"abcd").is_ok(), true);
+    assert_eq!(rt; one_byte.sink.written(), b"abcd".as_slice());
+    let fourth_fails = MemSink::new(rt.alloc(), 9, vec![in rt.alloc(); 4u64]?)?;
+    let mut one_byte = OneByte { sink: fourth_fails };
+    assert_eq!(rt; write_all(&mut one_byte, b"abcde").is_err(), true);
+    assert_eq!(rt; one_byte.sink.written(), b"abc".as_slice());
     Ok(())
 }
 

@@ -4,9 +4,10 @@
 //! A line has the mode (`s` is strict), the count of outputs, the name, the arguments and the outputs. An array is its
 //! class, rows, columns and cells by columns.
 
-use super::*;
+use crate::written::class_of;
 use pl_array::{Arr, Class, Shape, convert};
 use pl_base::{ErrKind, Mode, Or};
+use pl_setfn::{SetFn, call_set_in};
 use std::alloc::Global;
 use std::fmt::Write;
 use std::test::Fail;
@@ -92,14 +93,6 @@ p|1|flipud||ArgCount
 p|1|nnz|i 2 2 0 5 0 -1|i 1 1 2
 p|1|nnz|i 0 0|i 1 1 0
 p|1|nnz||ArgCount";
-
-fn class_of(letter: &str) -> Class {
-    match letter {
-        "c" => Class::Char,
-        "l" => Class::Logical,
-        _ => Class::Int,
-    }
-}
 
 fn letter_of(class: Class) -> &'static str {
     match class {
