@@ -104,19 +104,40 @@ fn turn_of(owner: Owner) -> Turn
     }
 }
 
+/// The arm of an `if` is done, and the next one has this test.
+fn turned_arm(
+    arms: Items<Arm>,
+    test: Expr,
+    block: Items<Stmt>,
+    value: Expr,
+) -> Result<Owner, NoMemory>
+    ensures { IfOk result (λ o. o ≡ Owner.If (spec.with_arm arms test block) value) }
+{
+    let arms = with_arm(arms, test, block)?;
+    Ok(Owner::If(arms, value))
+}
+
+/// The case of a `switch` is done, and the next one has this value.
+fn turned_case(
+    subject: Expr,
+    arms: Items<Arm>,
+    test: Expr,
+    block: Items<Stmt>,
+    value: Expr,
+) -> Result<Owner, NoMemory>
+    ensures { IfOk result (λ o. o ≡ Owner.Case subject (spec.with_arm arms test block) value) }
+{
+    let arms = with_arm(arms, test, block)?;
+    Ok(Owner::Case(subject, arms, value))
+}
+
 fn turned(alloc: Global, turn: Turn, block: Items<Stmt>, value: Expr) -> Result<Owner, NoMemory>
     ensures { IfOk result (λ o. o ≡ spec.turned turn block value) }
 {
     match turn {
-        Turn::Arm(arms, test) => {
-            let arms = with_arm(arms, test, block)?;
-            Ok(Owner::If(arms, value))
-        }
+        Turn::Arm(arms, test) => turned_arm(arms, test, block, value),
         Turn::Subject(subject) => Ok(Owner::Case(subject, Items::new(alloc), value)),
-        Turn::Case(subject, arms, test) => {
-            let arms = with_arm(arms, test, block)?;
-            Ok(Owner::Case(subject, arms, value))
-        }
+        Turn::Case(subject, arms, test) => turned_case(subject, arms, test, block, value),
         Turn::Other(owner) => Ok(owner),
     }
 }
@@ -136,16 +157,35 @@ fn with_value(
     Ok(owner)
 }
 
+/// The last arm of an `if` with a test is done.
+fn done_arm(arms: Items<Arm>, test: Expr, block: Items<Stmt>) -> Result<Owner, NoMemory>
+    ensures { IfOk result (λ o. o ≡ Owner.Else (spec.with_arm arms test block)) }
+{
+    let arms = with_arm(arms, test, block)?;
+    Ok(Owner::Else(arms))
+}
+
+/// The last case of a `switch` with a value is done.
+fn done_case(
+    subject: Expr,
+    arms: Items<Arm>,
+    test: Expr,
+    block: Items<Stmt>,
+) -> Result<Owner, NoMemory>
+    ensures { IfOk result (λ o. o ≡ Owner.Otherwise subject (spec.with_arm arms test block)) }
+{
+    let arms = with_arm(arms, test, block)?;
+    Ok(Owner::Otherwise(subject, arms))
+}
+
 /// The block is done, and a further part has no value.
 fn with_none(alloc: Global, owner: Owner, block: Items<Stmt>) -> Result<Owner, NoMemory>
     ensures { IfOk result (λ o. o ≡ tree_spec.with_none owner block) }
 {
     match owner {
-        Owner::If(arms, test) => Ok(Owner::Else(with_arm(arms, test, block)?)),
+        Owner::If(arms, test) => done_arm(arms, test, block),
         Owner::Switch(subject) => Ok(Owner::Otherwise(subject, Items::new(alloc))),
-        Owner::Case(subject, arms, test) => {
-            Ok(Owner::Otherwise(subject, with_arm(arms, test, block)?))
-        }
+        Owner::Case(subject, arms, test) => done_case(subject, arms, test, block),
         Owner::Else(arms) => Ok(Owner::Else(arms)),
         Owner::While(test) => Ok(Owner::While(test)),
         Owner::For(name, range) => Ok(Owner::For(name, range)),
@@ -211,15 +251,39 @@ fn with_part(alloc: Global, owner: Owner, block: Items<Stmt>, part: Part) -> Res
     }
 }
 
+/// An `if` that ends with an arm with a test.
+fn closed_if(
+    alloc: Global,
+    arms: Items<Arm>,
+    test: Expr,
+    block: Items<Stmt>,
+) -> Result<StmtKind, NoMemory>
+    ensures { IfOk result (λ s. s ≡ tree_spec.closed (Owner.If arms test) block) }
+{
+    let arms = with_arm(arms, test, block)?;
+    Ok(StmtKind::If(arms, Items::new(alloc)))
+}
+
+/// A `switch` that ends with a case.
+fn closed_case(
+    alloc: Global,
+    subject: Expr,
+    arms: Items<Arm>,
+    test: Expr,
+    block: Items<Stmt>,
+) -> Result<StmtKind, NoMemory>
+    ensures { IfOk result (λ s. s ≡ tree_spec.closed (Owner.Case subject arms test) block) }
+{
+    let arms = with_arm(arms, test, block)?;
+    Ok(StmtKind::Switch(subject, arms, Items::new(alloc)))
+}
+
 /// The statement that a compound statement is, its last block done.
 pub fn closed(owner: Owner, block: Items<Stmt>, alloc: Global) -> Result<StmtKind, NoMemory>
     ensures { IfOk result (λ s. s ≡ tree_spec.closed owner block) }
 {
     match owner {
-        Owner::If(arms, test) => {
-            let arms = with_arm(arms, test, block)?;
-            Ok(StmtKind::If(arms, Items::new(alloc)))
-        }
+        Owner::If(arms, test) => closed_if(alloc, arms, test, block),
         Owner::Else(arms) => Ok(StmtKind::If(arms, block)),
         Owner::While(test) => Ok(StmtKind::While(test, block)),
         Owner::For(name, range) => Ok(StmtKind::For(name, range, block)),
@@ -229,10 +293,7 @@ pub fn closed(owner: Owner, block: Items<Stmt>, alloc: Global) -> Result<StmtKin
             Items::new(alloc),
             Items::new(alloc),
         )),
-        Owner::Case(subject, arms, test) => {
-            let arms = with_arm(arms, test, block)?;
-            Ok(StmtKind::Switch(subject, arms, Items::new(alloc)))
-        }
+        Owner::Case(subject, arms, test) => closed_case(alloc, subject, arms, test, block),
         Owner::Otherwise(subject, arms) => Ok(StmtKind::Switch(subject, arms, block)),
         Owner::Try => Ok(StmtKind::Try(block, Items::new(alloc))),
         Owner::Catch(body) => Ok(StmtKind::Try(body, block)),

@@ -192,13 +192,27 @@ fn right_tree(alloc: Global, signs: Pile<SignAt>, right: Operand) -> Result<Expr
     under_signs(alloc, signs, right)
 }
 
-fn binary(alloc: Global, op: Bin, place: Place, left: Expr, right: Expr) -> Result<Expr, NoMemory>
-    ensures { IfOk result (λ e. e ≡ spec.binary op place left right) }
+/// The tree of an operand, in a box.
+fn boxed_tree(alloc: Global, operand: Operand) -> Result<Boxed<Expr>, NoMemory>
+    ensures { IfOk result (λ e. e ≡ spec.tree operand) }
 {
-    let left = Boxed::new(alloc, left)?;
-    let right = Boxed::new(alloc, right)?;
+    let tree = tree(alloc, operand)?;
+    Ok(Boxed::new(alloc, tree)?)
+}
+
+/// The tree of a right operand with its signs, in a box.
+fn boxed_right(alloc: Global, signs: Pile<SignAt>, right: Operand) -> Result<Boxed<Expr>, NoMemory>
+    ensures { IfOk result (λ e. e ≡ spec.under_signs signs (spec.tree right)) }
+{
+    let tree = right_tree(alloc, signs, right)?;
+    Ok(Boxed::new(alloc, tree)?)
+}
+
+fn binary(op: Bin, place: Place, left: Boxed<Expr>, right: Boxed<Expr>) -> Expr
+    ensures { result ≡ spec.binary op place left right }
+{
     let kind = ExprKind::Binary(op, left, right);
-    Ok(Expr { kind, place })
+    Expr { kind, place }
 }
 
 /// An operator of two operands, with both.
@@ -215,25 +229,47 @@ fn joined(
     let weight = plus(1, signs.elements().len());
     let height = plus(1, left.height).max(plus(weight, right.height));
     let mark = left.mark;
-    let right = right_tree(alloc, signs, right)?;
-    let left = tree(alloc, left)?;
-    let tree = binary(alloc, op, place, left, right)?;
-    Ok(plain(tree, mark, height))
+    let right = boxed_right(alloc, signs, right)?;
+    let left = boxed_tree(alloc, left)?;
+    Ok(plain(binary(op, place, left, right), mark, height))
 }
 
-fn range(
+/// Where a range begins and where it ends, in boxes.
+#[derive(Drop)]
+struct Ends {
+    from: Boxed<Expr>,
+    to: Boxed<Expr>,
+}
+
+fn ends_of(alloc: Global, from: Operand, to: Operand) -> Result<Ends, NoMemory>
+    ensures from { IfOk result (λ ends. ends.from ≡ spec.tree from) }
+    ensures to { IfOk result (λ ends. ends.to ≡ spec.tree to) }
+{
+    let from = boxed_tree(alloc, from)?;
+    let to = boxed_tree(alloc, to)?;
+    Ok(Ends { from, to })
+}
+
+fn range(place: Place, ends: Ends, step: Option<Boxed<Expr>>) -> Expr
+    ensures { result ≡ spec.range place ends.from step ends.to }
+{
+    let Ends { from, to } = ends;
+    let kind = ExprKind::Range(from, step, to);
+    Expr { kind, place }
+}
+
+fn range_tree(
     alloc: Global,
     place: Place,
-    from: Expr,
-    step: Option<Boxed<Expr>>,
-    to: Expr,
+    from: Operand,
+    step: Option<Operand>,
+    to: Operand,
 ) -> Result<Expr, NoMemory>
-    ensures { IfOk result (λ e. e ≡ spec.range place from step to) }
+    ensures { IfOk result (λ e. e ≡ spec.range place (spec.tree from) (spec.step_tree step) (spec.tree to)) }
 {
-    let from = Boxed::new(alloc, from)?;
-    let to = Boxed::new(alloc, to)?;
-    let kind = ExprKind::Range(from, step, to);
-    Ok(Expr { kind, place })
+    let step = step_tree(alloc, step)?;
+    let ends = ends_of(alloc, from, to)?;
+    Ok(range(place, ends, step))
 }
 
 /// A range, with its step or none.
@@ -249,10 +285,7 @@ fn ranged(
     let mark = from.mark;
     let low = from.height.max(step_height(&step));
     let height = plus(1, low).max(plus(1, to.height));
-    let from = tree(alloc, from)?;
-    let step = step_tree(alloc, step)?;
-    let to = tree(alloc, to)?;
-    let tree = range(alloc, place, from, step, to)?;
+    let tree = range_tree(alloc, place, from, step, to)?;
     Ok(plain(tree, mark, height))
 }
 
@@ -261,10 +294,7 @@ fn step_tree(alloc: Global, step: Option<Operand>) -> Result<Option<Boxed<Expr>>
 {
     match step {
         None => Ok(None),
-        Some(step) => {
-            let step = tree(alloc, step)?;
-            Ok(Some(Boxed::new(alloc, step)?))
-        }
+        Some(step) => Ok(Some(boxed_tree(alloc, step)?)),
     }
 }
 
