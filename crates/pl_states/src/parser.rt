@@ -10,15 +10,16 @@ use crate::statements::{
 };
 use crate::titles::{behind_function, read_titling};
 use pl_base::{NoMemory, Or};
+use pl_behind::{read_after, untear};
 use pl_frames::{
     Bottom, Done, Goal, Held, Inner, Lead, Mark, Operand, Pile, Root, Site, Stack, State, Top,
     reduce, site_open, stack_open,
 };
 use pl_grammar::{FaultKind, Terminal, Word};
-use pl_steps::{
-    Step, behind_at, behind_colon, behind_dot, behind_output, behind_outputs, behind_stem, ended,
-    read_after, read_operand, read_output, refused, settle, untear,
+use pl_outputs::{
+    behind_at, behind_colon, behind_dot, behind_output, behind_outputs, behind_stem, read_output,
 };
+use pl_steps::{Step, ended, read_operand, refused, settle};
 use pl_syntax::{Program, Stmt};
 use sqlite_items::Items;
 use std::alloc::Global;

@@ -4,16 +4,16 @@ ghost use Rattle.std.specs.Prelude.{◌≡◌, ◌∷◌, false, if◌then◌els
 ghost use Rattle.pl_grammar.specs.Words as words;
 ghost use Rattle.pl_steps.specs.Steps as spec;
 
-use crate::behind::{has_state, target_name};
-use crate::names::{Dots, dots_of, is_state};
-use crate::operands::{called, laid};
-use crate::refusing::{Step, nothing, refused, refused_with, roomy};
 use pl_base::{NoMemory, Text};
 use pl_frames::{
     Bottom, Callee, Form, Frame, Goal, Listed, Mark, Operand, Outgoing, Pile, Site, Stack, State,
     listed, outgoing_room, plain, plus, tree,
 };
 use pl_grammar::Word;
+use pl_steps::{
+    Dots, Step, called, dots_of, has_state, is_state, laid, nothing, refused, refused_with, roomy,
+    target_name,
+};
 use pl_syntax::{Expr, ExprKind, Name, Target};
 use sqlite_items::{Boxed, Items};
 use std::alloc::Global;
@@ -66,7 +66,7 @@ fn colon_in(
 }
 
 /// Behind a colon that is an argument.
-#[tactic(auto, unfolding(crate::specs::Steps::behind_colon))]
+#[tactic(auto, unfolding(pl_steps::specs::Steps::behind_colon))]
 pub fn behind_colon(alloc: Global, word: &Word, colon: Mark, stack: Stack) -> Step
     ensures { spec.Gives result (spec.behind_colon word.now colon stack) }
 {
@@ -82,7 +82,7 @@ pub fn behind_colon(alloc: Global, word: &Word, colon: Mark, stack: Stack) -> St
 }
 
 /// Behind `@`.
-#[tactic(auto, unfolding(crate::specs::Steps::behind_at))]
+#[tactic(auto, unfolding(pl_steps::specs::Steps::behind_at))]
 pub fn behind_at(alloc: Global, word: &Word, mark: Mark, at: Mark, stack: Stack) -> Step
     ensures { spec.Gives result (spec.behind_at word.now mark at stack) }
 {
@@ -158,7 +158,7 @@ fn longer(operand: Operand, more: &Text, stack: Stack) -> Step
 }
 
 /// Behind a dot.
-#[tactic(auto, unfolding(crate::specs::Steps::behind_dot))]
+#[tactic(auto, unfolding(pl_steps::specs::Steps::behind_dot))]
 pub fn behind_dot(alloc: Global, word: &Word, operand: Operand, stack: Stack) -> Step
     ensures { spec.Gives result (spec.behind_dot word.now operand stack) }
 {
@@ -187,7 +187,7 @@ pub fn behind_stem(word: &Word, operand: Operand, stack: Stack) -> Step
 }
 
 /// Where an output has to come.
-#[tactic(auto, unfolding(crate::specs::Steps::read_output))]
+#[tactic(auto, unfolding(pl_steps::specs::Steps::read_output))]
 pub fn read_output(
     alloc: Global,
     word: &Word,
@@ -321,7 +321,7 @@ fn list_output(
 }
 
 /// Behind an output and white space, the next output.
-#[tactic(auto, unfolding(crate::specs::Steps::next_output))]
+#[tactic(auto, unfolding(pl_steps::specs::Steps::next_output))]
 fn next_output(
     alloc: Global,
     word: &Word,
@@ -373,7 +373,7 @@ fn shut_outputs(bracket: Mark, before: Outgoing, target: Option<Target>, site: S
 }
 
 /// Behind an output.
-#[tactic(auto, unfolding(crate::specs::Steps::behind_output))]
+#[tactic(auto, unfolding(pl_steps::specs::Steps::behind_output))]
 pub fn behind_output(
     alloc: Global,
     word: &Word,
