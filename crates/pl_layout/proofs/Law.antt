@@ -13,7 +13,8 @@ use Rattle.pl_lex.specs.Pieces.{clean, bytes_of}
 use Rattle.pl_lex.specs.Tokens.{mark_len, tokens_of}
 use Rattle.pl_terminals.specs.Terminals.{terminal_of}
 use Rattle.pl_layout.specs.Layout.{Line, first_line, written, level, past, lead, indent, blank, text_from, text}
-use Rattle.pl_layout.specs.Shown.{Before, beyond, LineFits, AreShownFrom, AreAlike, TextLaw}
+use Rattle.pl_printing.specs.ReadingBack.{AreAlike}
+use Rattle.pl_layout.specs.Shown.{Before, beyond, LineFits, AreShownFrom, TextLaw}
 use Rattle.pl_layout.proofs.Parts.{Brackets, Last}
 use Rattle.pl_layout.proofs.Spelt.{calm, Spelt, spelt}
 use Rattle.pl_layout.proofs.Reading.{Read, read_end, blanks, read_blanks, read_word, solid_bytes}

@@ -8,7 +8,8 @@ use Rattle.pl_lex.specs.State.{behind}
 use Rattle.pl_lex.specs.Pieces.{Piece, clean, bytes_of, FitsOutside, Cut}
 use Rattle.pl_lex.specs.Tokens.{tokens_of}
 use Rattle.pl_terminals.specs.Terminals.{terminal_of, word_of}
-use Rattle.pl_layout.specs.Shown.{Before, beyond, AreAlike}
+use Rattle.pl_printing.specs.ReadingBack.{AreAlike}
+use Rattle.pl_layout.specs.Shown.{Before, beyond}
 use Rattle.pl_layout.proofs.Parts.{Brackets, Last, blank_part}
 use Rattle.pl_layout.proofs.Spelt.{calm, Spelt}
 

@@ -11,6 +11,7 @@ use Rattle.pl_lex.specs.State.{start, opens_text, token, line_end, keyword, clos
 use Rattle.pl_lex.specs.Pieces.{is_whole, joins, continues}
 use Rattle.pl_lex.specs.Tokens.{IsName, Lexes}
 use Rattle.pl_terminals.specs.Terminals.{terminal_of}
+use Rattle.pl_printing.specs.ReadingBack.{AreAlike}
 use Rattle.pl_layout.specs.Layout.{Line, first_line, written, level, past, text_from, text}
 
 -- ---- which terminals can be laid out
@@ -109,13 +110,6 @@ abbrev pub AreShown : List Terminal → Type 0
 AreShown ts = AreShownFrom first_line start ts
 
 -- ---- the law
-
--- the same words with the same white space; their places are free
-abbrev pub AreAlike : List Terminal → List Terminal → Type 0
-AreAlike [] [] = Unit {0}
-AreAlike [] (u ∷ us) = ⊥
-AreAlike (t ∷ ts) [] = ⊥
-AreAlike (t ∷ ts) (u ∷ us) = (t.word ≡ u.word) × (t.gap ≡ u.gap) × AreAlike ts us
 
 -- the source has tokens, and they are these terminals but for places
 pub record ReadAs (source : List ℕ) (ts : List Terminal) : Type 0 where

@@ -3,8 +3,8 @@ use Rattle.std.proofs.Common.{◌≡◌, ◌∙◌, ◌⊎◌, ℕ, List, Result
 use Rattle.pl_base.specs.declared.errors.Place.{Place}
 use Rattle.pl_lex.specs.declared.token.Token.{Token}
 use Rattle.pl_lex.specs.declared.token.LexKind.{LexKind}
-use Rattle.pl_lex.specs.Tokens.{Lexes, Faults}
-use Rattle.pl_lex.specs.Scan.{answer, place_of}
+use Rattle.pl_lex.specs.Tokens.{place_of, Lexes, Faults}
+use Rattle.pl_lex.specs.Scan.{answer}
 use Rattle.pl_lex.proofs.Runs as runs
 
 abbrev list_of : List Token → Result (List Token) (LexKind × ℕ) → List Token

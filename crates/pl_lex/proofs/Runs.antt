@@ -10,8 +10,8 @@ use Rattle.pl_lex.specs.declared.token.LexKind.{LexKind}
 use Rattle.pl_lex.specs.Bytes.{class_of}
 use Rattle.pl_lex.specs.State.{start, in_block, behind}
 use Rattle.pl_lex.specs.Pieces.{Piece, Ending, clean, fault, ending_bytes, bytes_of, FitsBy, Ends, Cut}
-use Rattle.pl_lex.specs.Tokens.{kind_of, token_of, tokens_of, mark_len, first_place, past, Lexes, Faults}
-use Rattle.pl_lex.specs.Scan.{found, head, run, answer, place_of}
+use Rattle.pl_lex.specs.Tokens.{kind_of, token_of, tokens_of, mark_len, first_place, past, place_of, Lexes, Faults}
+use Rattle.pl_lex.specs.Scan.{found, head, run, answer}
 use Rattle.pl_lex.proofs.Finds.{finds, refused}
 use Rattle.pl_lex.proofs.Sound.{HeadSound, head_sound}
 

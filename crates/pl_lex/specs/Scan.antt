@@ -1,8 +1,7 @@
 -- The pieces of bytes, found from the front on: what `scan.rt` and `lexer.rt` compute. That these are the
 -- pieces of the grammar is proved of it (proofs/Finds, proofs/Sound).
-use Rattle.std.specs.Prelude.{ℕ, suc, zero, ◌+◌, ◌-◌, Bool, true, false, ◌==◌, if◌then◌else◌, List, [], ◌∷◌, ◌++◌, drop, take, slice_index, Option, Some, None, option_map, Result, Ok, Err}
+use Rattle.std.specs.Prelude.{ℕ, suc, zero, ◌+◌, Bool, true, false, ◌==◌, if◌then◌else◌, List, [], ◌∷◌, ◌++◌, drop, take, slice_index, Option, Some, None, option_map, Result, Ok, Err}
 use Rattle.std.specs.List.{prefix_len}
-use Rattle.pl_base.specs.declared.errors.Place.{Place}
 use Rattle.pl_lex.specs.declared.bytes.Class.{Class}
 use Rattle.pl_lex.specs.declared.bytes.Class.TheVariants.{Letter, Digit, Underscore, Blank, LineFeed, Return, Percent, Single, Double, Dot, Other}
 use Rattle.pl_lex.specs.declared.state.Part.{Part}
@@ -16,7 +15,7 @@ use Rattle.pl_lex.specs.Bytes.{class_of, is_part, is_digit, is_blank, begins, to
 use Rattle.pl_lex.specs.Keywords.{is_keyword}
 use Rattle.pl_lex.specs.State.{start, in_block, opens_text, behind}
 use Rattle.pl_lex.specs.Pieces.{in_range, is_whole, joins, continues, marks}
-use Rattle.pl_lex.specs.Tokens.{kind_of, token_of, mark_len, first_place, past}
+use Rattle.pl_lex.specs.Tokens.{kind_of, token_of, mark_len}
 
 -- a piece of this sort, with so many bytes behind its first
 abbrev pub found : Part → ℕ → Found
@@ -120,7 +119,3 @@ run done b at zero (c ∷ cs) =
 -- the tokens of a source, or its first fault and where that stands
 unfoldable pub answer : List ℕ → Result (List Token) (LexKind × ℕ)
 answer source = run [] start (mark_len source) 0 (drop (mark_len source) source)
-
--- the place behind so many bytes
-unfoldable pub place_of : List ℕ → ℕ → Place
-place_of source at = past (first_place source) (take (at - mark_len source) (drop (mark_len source) source))

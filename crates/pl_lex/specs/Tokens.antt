@@ -55,6 +55,10 @@ past p (c ∷ cs) = past (next_place p c) cs
 abbrev pub first_place : List ℕ → Place
 first_place source = record { line = 1; col = 1; at = mark_len source }
 
+-- where the byte behind so many stands
+unfoldable pub place_of : List ℕ → ℕ → Place
+place_of source at = past (first_place source) (take (at - mark_len source) (drop (mark_len source) source))
+
 -- the source has these tokens
 pub record Lexes (source : List ℕ) (tokens : List Token) : Type 0 where
   pub pieces : List Piece

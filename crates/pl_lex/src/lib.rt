@@ -20,6 +20,3 @@ mod token;
 pub use law::{one_answer, token_ranges};
 pub use lexer::lex;
 pub use token::{Kind, LexFault, LexKind, Token};
-
-#[cfg(test)]
-mod tests;

@@ -1,7 +1,7 @@
 //! The line and column of a byte.
 
 ghost use Rattle.std.specs.Prelude.{◌≡◌, ◌≤◌, ◌+◌, ◌^◌, ◌<◌, length};
-ghost use Rattle.pl_lex.specs.Scan.{place_of};
+ghost use Rattle.pl_lex.specs.Tokens.{place_of};
 ghost use Rattle.pl_lex.specs.Tokens as spec;
 
 use pl_base::Place;
@@ -42,7 +42,7 @@ fn next_place(place: Place, byte: u8) -> Place
 }
 
 /// The place of a byte, or of the end of the source.
-#[tactic(auto, unfolding(crate::specs::Scan::place_of))]
+#[tactic(auto, unfolding(crate::specs::Tokens::place_of))]
 pub(crate) fn place_at(source: &[u8], at: usize) -> Place
     requires marked { spec.mark_len source.now ≤ at }
     requires within { at ≤ length source.now }

@@ -9,7 +9,8 @@ use Rattle.pl_grammar.specs.declared.fault.FaultKind.{FaultKind}
 use Rattle.pl_grammar.specs.declared.terminal.Terminal.{Terminal}
 use Rattle.pl_grammar.specs.Programs.{strict, Parses, shown_at, ParseFault as FaultAt}
 use Rattle.pl_lex.specs.declared.token.Token.{Token}
-use Rattle.pl_terminals.specs.Terminals.{terminal_of, place_from}
+use Rattle.pl_lex.specs.Tokens.{place_of}
+use Rattle.pl_terminals.specs.Terminals.{terminal_of}
 use Rattle.pl_states.specs.declared.parser.Refusal.{Refusal}
 use Rattle.pl_parse.specs.declared.fault.ParseFault.{ParseFault}
 
@@ -22,7 +23,7 @@ IsProgram source tokens program = Parses (strict 200) (terminals_of source token
 
 -- the place of the first of these terminals, or the end of the file
 abbrev pub front_place : List ℕ → List Terminal → Place
-front_place source [] = place_from source (length source)
+front_place source [] = place_of source (length source)
 front_place source (t ∷ ts) = t.place
 
 -- where a fault is shown before which so many terminals stand

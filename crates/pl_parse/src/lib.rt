@@ -14,6 +14,3 @@ mod parsing;
 pub use fault::ParseFault;
 pub use law::one_machine;
 pub use parsing::parse;
-
-#[cfg(test)]
-mod tests;

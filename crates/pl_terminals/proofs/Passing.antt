@@ -3,8 +3,8 @@ use Rattle.std.proofs.Common.{◌≡◌, ℕ, ◌+◌, ◌-◌, ◌<◌, ◌≤�
 use Rattle.std.proofs.Math.Seq.{take-add}
 use Rattle.std.proofs.lemmas.List.{length-take, length-drop, drop-drop}
 use Rattle.pl_base.specs.declared.errors.Place.{Place}
-use Rattle.pl_lex.specs.Tokens.{mark_len, first_place, next_place, past}
-use Rattle.pl_terminals.specs.Terminals.{place_from, StandsIn}
+use Rattle.pl_lex.specs.Tokens.{mark_len, first_place, next_place, past, place_of}
+use Rattle.pl_terminals.specs.Terminals.{StandsIn}
 
 pub past-append : (p : Place) (xs ys : List ℕ) → past p (xs ++ ys) ≡ past (past p xs) ys
 past-append p [] ys = refl
@@ -37,38 +37,38 @@ split m a b s h k =
     ap (λ n. take n (drop m s)) e ∙ take-add (a - m) (b - a) (drop m s) ∙ ap (λ t. take (a - m) (drop m s) ++ take (b - a) t) d
 
 -- the place behind the bytes between a place and a byte is that byte's
-pub goes_on : (source : List ℕ) (p : Place) (b : ℕ) → StandsIn source p → p.at ≤ b → past p (take (b - p.at) (drop p.at source)) ≡ place_from source b
-unfolding place_from
+pub goes_on : (source : List ℕ) (p : Place) (b : ℕ) → StandsIn source p → p.at ≤ b → past p (take (b - p.at) (drop p.at source)) ≡ place_of source b
+unfolding place_of
 goes_on source p b (h, k, e) le =
     ap (λ q. past q (take (b - p.at) (drop p.at source))) e
     ∙ sym (past-append (first_place source) (take (p.at - mark_len source) (drop (mark_len source) source)) (take (b - p.at) (drop p.at source)))
     ∙ ap (past (first_place source)) (sym (split (mark_len source) p.at b source h le))
 
 -- a byte before the mark's end
-pub begins : (source : List ℕ) (b : ℕ) → b < mark_len source → first_place source ≡ place_from source b
-unfolding place_from
+pub begins : (source : List ℕ) (b : ℕ) → b < mark_len source → first_place source ≡ place_of source b
+unfolding place_of
 begins source b h = let e : b - mark_len source ≡ 0 = omega arith in rw e refl
 
-place-at : (source : List ℕ) (a : ℕ) → mark_len source ≤ a → a ≤ length source → (place_from source a).at ≡ a
-unfolding place_from
+place-at : (source : List ℕ) (a : ℕ) → mark_len source ≤ a → a ≤ length source → (place_of source a).at ≡ a
+unfolding place_of
 place-at source a h k =
     let e : (past (first_place source) (take (a - mark_len source) (drop (mark_len source) source))).at ≡ mark_len source + length (take (a - mark_len source) (drop (mark_len source) source)) = past-at (first_place source) (take (a - mark_len source) (drop (mark_len source) source)) in
     grind (arith, e, length-take, length-drop)
 
 -- the place of a byte stands in the source
-pub stands : (source : List ℕ) (a : ℕ) → mark_len source ≤ a → a ≤ length source → StandsIn source (place_from source a)
-unfolding place_from
+pub stands : (source : List ℕ) (a : ℕ) → mark_len source ≤ a → a ≤ length source → StandsIn source (place_of source a)
+unfolding place_of
 stands source a h k =
-    let e : (place_from source a).at ≡ a = place-at source a h k in
+    let e : (place_of source a).at ≡ a = place-at source a h k in
     (rw e h, rw e k, rw e refl)
 
 pub first_stands : (source : List ℕ) → mark_len source ≤ length source → StandsIn source (first_place source)
-unfolding place_from
+unfolding place_of
 first_stands source h = let e : mark_len source - mark_len source ≡ 0 = omega arith in (omega arith, h, rw e refl)
 
 -- lines and columns are no more than bytes
 pub near : (source : List ℕ) (p : Place) → StandsIn source p → (p.line ≤ 1 + p.at) × (p.col ≤ 1 + p.at)
-unfolding place_from
+unfolding place_of
 near source p (h, k, e) =
     let bytes : List ℕ = take (p.at - mark_len source) (drop (mark_len source) source) in
     let n : length bytes ≤ p.at - mark_len source = grind (arith, length-take) in

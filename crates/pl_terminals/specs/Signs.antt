@@ -1,6 +1,6 @@
 -- Signs and keywords by their bytes. What isn't among them stands for the last one.
-use Rattle.std.specs.Prelude.{ℕ, Bool, ◌==◌, nat_eq, if◌then◌else◌, List, [], ◌∷◌, codes}
-use Rattle.std.specs.Cmp.Lexicographic.{pointwise}
+use Rattle.std.specs.Prelude.{ℕ, ◌==◌, if◌then◌else◌, List, [], ◌∷◌, codes}
+use Rattle.pl_lex.specs.Keywords.{same}
 use Rattle.pl_syntax.specs.declared.expr.Bin.TheVariants as bin
 use Rattle.pl_grammar.specs.declared.terminal.Word.{Word}
 use Rattle.pl_grammar.specs.declared.terminal.Word.TheVariants as w
@@ -58,9 +58,6 @@ abbrev pub sign : List ℕ → Word
 sign [] = w.Dot
 sign (c ∷ []) = lone c
 sign (c ∷ d ∷ cs) = double c d
-
-abbrev pub same : List ℕ → List ℕ → Bool
-same a b = pointwise nat_eq a b
 
 unfoldable pub later_keyword : List ℕ → Keyword
 later_keyword b =

@@ -4,7 +4,7 @@ use Rattle.pl_base.specs.declared.errors.Place.{Place}
 use Rattle.pl_lex.specs.declared.token.Token.{Token}
 use Rattle.pl_lex.specs.declared.token.Kind.{Kind}
 use Rattle.pl_lex.specs.declared.token.Kind.TheVariants as kind
-use Rattle.pl_lex.specs.Tokens.{mark_len, first_place, past}
+use Rattle.pl_lex.specs.Tokens.{mark_len, place_of}
 use Rattle.pl_lex.specs.Pieces.{Inner, plain, doubled}
 use Rattle.pl_grammar.specs.declared.terminal.Word.{Word}
 use Rattle.pl_grammar.specs.declared.terminal.Word.TheVariants as w
@@ -38,23 +38,19 @@ word_of kind.Chars b = w.Chars (text b)
 word_of kind.Sign b = sign b
 word_of kind.LineEnd b = w.LineEnd
 
--- where a byte of the source stands
-unfoldable pub place_from : List ℕ → ℕ → Place
-place_from source at = past (first_place source) (take (at - mark_len source) (drop (mark_len source) source))
-
 -- the bytes of a token
 abbrev pub bytes_of : List ℕ → Token → List ℕ
 bytes_of source t = take (t.to - t.from) (drop t.from source)
 
 -- a place that is the one of its own byte
 abbrev pub StandsIn : List ℕ → Place → Type 0
-StandsIn source p = (mark_len source ≤ p.at) × (p.at ≤ length source) × (p ≡ place_from source p.at)
+StandsIn source p = (mark_len source ≤ p.at) × (p.at ≤ length source) × (p ≡ place_of source p.at)
 
 abbrev pub terminal_at : List ℕ → Token → Place → Terminal
 terminal_at source t place = record { word = word_of t.kind (bytes_of source t); gap = t.gap; place = place }
 
 abbrev pub terminal_of : List ℕ → Token → Terminal
-terminal_of source t = terminal_at source t (place_from source t.from)
+terminal_of source t = terminal_at source t (place_of source t.from)
 
 -- what stands between two quotes, two quotes for one
 abbrev pub inner_bytes : ℕ → List Inner → List ℕ

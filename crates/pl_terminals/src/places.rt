@@ -76,7 +76,7 @@ pub fn place_on(source: &[u8], place: Place, at: usize) -> Place
     requires within { at ≤ length source.now }
     requires short { length source.now ≤ 4294967294 }
     requires known { spec.StandsIn source.now place }
-    ensures value { result ≡ spec.place_from source.now at }
+    ensures value { result ≡ lex_spec.place_of source.now at }
     ensures known { spec.StandsIn source.now result }
 {
     let from = place.at as usize;
@@ -96,7 +96,7 @@ pub fn place_on(source: &[u8], place: Place, at: usize) -> Place
 #[tactic(auto, using(crate::proofs::Passing::first_stands))]
 pub fn end_place(source: &[u8]) -> Place
     requires { length source.now ≤ 4294967294 }
-    ensures { result ≡ spec.place_from source.now (length source.now) }
+    ensures { result ≡ lex_spec.place_of source.now (length source.now) }
 {
     place_on(source, first_place(source), source.len())
 }

@@ -1,6 +1,7 @@
 //! Signs and keywords.
 
 ghost use Rattle.std.specs.Prelude.{◌≡◌};
+ghost use Rattle.pl_lex.specs.Keywords as words;
 ghost use Rattle.pl_terminals.specs.Signs as spec;
 
 use pl_grammar::{Keyword, Word};
@@ -84,7 +85,7 @@ pub fn sign(bytes: &[u8]) -> Word
 }
 
 fn same(a: &[u8], b: &[u8]) -> bool
-    ensures { result ≡ spec.same a.now b.now }
+    ensures { result ≡ words.same a.now b.now }
 {
     a == b
 }
