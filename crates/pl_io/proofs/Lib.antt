@@ -1,2 +1,3 @@
-pub mod Fronts
 pub mod Appended
+pub mod Counts
+pub mod Fronts

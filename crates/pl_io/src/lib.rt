@@ -10,8 +10,6 @@ mod mem_files;
 mod mem_sink;
 mod outside;
 mod real;
-#[cfg(test)]
-mod tests;
 mod whole;
 
 pub use mem_files::MemFiles;

@@ -1,7 +1,7 @@
-//! The real outside, a few lines over std: the one place that is trusted and not proved. It tells nothing
-//! of bytes, and its counts rise with each error of the system.
+//! The real outside, a few lines over std. They are proved safe; that the system's files and streams do what
+//! their names say is not. It tells nothing of bytes, and its counts rise with each error of the system.
 
-ghost use Rattle.std.specs.Prelude.{◌≡◌, None};
+ghost use Rattle.std.specs.Prelude.{◌≡◌, None, OnOk, IsUtf8};
 ghost use Rattle.std.specs.Io.{ReadsAtMost};
 
 use crate::outside::{Failed, Files, Sink};
@@ -34,19 +34,33 @@ fn read_once<R: std::rt::Files>(rt: &R, name: &str, at: u64, into: &mut [u8]) ->
     file.read(into)
 }
 
+/// The read itself, of a name that is text.
+fn read_named<R: std::rt::Files>(
+    rt: &R,
+    name: &[u8],
+    at: u64,
+    into: &mut [u8],
+) -> Result<usize, Failed>
+    ensures bound { ReadsAtMost result into.new }
+    ensures text { OnOk result (IsUtf8 name.now) }
+{
+    match str::from_utf8(name) {
+        Ok(name) => read_once(rt, name, at, into).map_err(|_| Failed),
+        Err(_) => Err(Failed),
+    }
+}
+
 impl<'r, R: std::rt::Files> Files for RealFiles<'r, R> {
     ghost bytes = { λ _ _. None };
 
     ghost faults = { λ f. f.faults };
 
     fn read_at(&mut self, name: &[u8], at: u64, into: &mut [u8]) -> Result<usize, Failed> {
-        if let Ok(name) = str::from_utf8(name) {
-            if let Ok(n) = read_once(self.rt, name, at, into) {
-                return Ok(n);
-            }
+        let result = read_named(self.rt, name, at, into);
+        if result.is_err() {
+            self.faults = self.faults.saturating_add(1);
         }
-        self.faults = self.faults.saturating_add(1);
-        Err(Failed)
+        result
     }
 }
 

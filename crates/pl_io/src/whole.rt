@@ -1,9 +1,10 @@
 //! A file read to its end under a limit, and bytes written to theirs.
 
-ghost use Rattle.std.specs.Prelude.{◌≡◌, ◌+◌, ◌<◌, ◌≤◌, ℕ, List, None, Ok, Err, take, length, Result, IfOk, IfSome, OnOk, OnErr, IfErr, vec_len};
+ghost use Rattle.std.specs.Prelude.{◌≡◌, ◌+◌, ◌<◌, ◌≤◌, ℕ, List, [], None, Ok, Err, take, length, Result, IfOk, IfSome, OnOk, OnErr, IfErr, IsOk, vec_len};
 ghost use Rattle.std.specs.Io.KnownBytes.{Appends};
 ghost use Rattle.pl_base.specs.declared.memory.Or.{Or};
-ghost use Rattle.pl_io.specs.Faults.{Rose, HasCause};
+ghost use Rattle.pl_io.specs.Counted.{counted};
+ghost use Rattle.pl_io.specs.Faults.{HasCause};
 ghost use Rattle.pl_io.specs.Told.{Stays, IsFront, AppendsPrefix};
 ghost use Rattle.pl_io.specs.Whole.{IsWhole, IsTooLong};
 
@@ -42,7 +43,7 @@ pub fn read_all<F: Files>(
     ensures too_long { (got : List ℕ) → result ≡ Err (Or.Is (ReadFault.TooLong got)) → IsTooLong (F.bytes files.old name.now) limit got }
     ensures told { Stays (F.bytes files.old) (F.bytes files.new) }
     ensures later { F.faults files.old ≤ F.faults files.new }
-    ensures failed { result ≡ Err (Or.Is ReadFault.Failed) → Rose (F.faults files.old) (F.faults files.new) }
+    ensures failed { result ≡ Err (Or.Is ReadFault.Failed) → F.faults files.new ≡ counted (F.faults files.old) }
     ensures grew { F.faults files.old < F.faults files.new → result ≡ Err (Or.Is ReadFault.Failed) }
     ensures kept { OnOk result (F.faults files.new ≡ F.faults files.old) }
 {
@@ -72,7 +73,7 @@ fn read_front<F: Files>(
     ensures front { IfOk result (λ v. IfSome (F.bytes files.old name.now) (λ bs. v.items ≡ take most bs)) }
     ensures told { Stays (F.bytes files.old) (F.bytes files.new) }
     ensures later { F.faults files.old ≤ F.faults files.new }
-    ensures failed { result ≡ Err (Or.Is record {}) → Rose (F.faults files.old) (F.faults files.new) }
+    ensures failed { result ≡ Err (Or.Is record {}) → F.faults files.new ≡ counted (F.faults files.old) }
     ensures grew { F.faults files.old < F.faults files.new → result ≡ Err (Or.Is record {}) }
 {
     let mut piece = vec![in alloc; 0u8; most.min(PIECE)]?;
@@ -100,7 +101,7 @@ fn read_piece<F: Files>(
     ensures ends { IfOk result (λ n. IfSome (F.bytes files.old name.now) (λ bs. n ≡ 0 → length bs ≤ vec_len bytes.new)) }
     ensures told { Stays (F.bytes files.old) (F.bytes files.new) }
     ensures later { F.faults files.old ≤ F.faults files.new }
-    ensures failed { result ≡ Err (Or.Is record {}) → Rose (F.faults files.old) (F.faults files.new) }
+    ensures failed { result ≡ Err (Or.Is record {}) → F.faults files.new ≡ counted (F.faults files.old) }
     ensures grew { F.faults files.old < F.faults files.new → result ≡ Err (Or.Is record {}) }
 {
     let count = files
@@ -117,6 +118,7 @@ pub fn write_all<K: Sink>(sink: &mut K, bytes: &[u8]) -> Result<(), WriteFault>
     ensures silent { K.written sink.old ≡ None → K.written sink.new ≡ None }
     ensures cause { HasCause (K.faults sink.old) (K.faults sink.new) result }
     ensures grew { K.faults sink.old < K.faults sink.new → result ≡ Err (record {}) }
+    ensures nothing { bytes.now ≡ [] → (sink.new ≡ sink.old) × IsOk result }
 {
     let mut at = 0;
     while at < bytes.len() {
