@@ -28,7 +28,7 @@ use Rattle.pl_meaning.specs.Forms.{is_form}
 use Rattle.pl_meaning.specs.Logs.{Workspace}
 use Rattle.pl_meaning.specs.Names.{slot_of}
 use Rattle.pl_meaning.specs.Running.{Running}
-use Rattle.pl_meaning.specs.Parts.{Level, Values, enter, output_of, output_at, offered_of, offered, shown, shown_first, name_of, written_in, taken, answered, results_from, first_offered, results_of, results, frame_of as call_frame, with_slot, bound_in, bound, count_in, counted_in, entry_of, ran, body_of, entered, title, evaluated, assigned_whole, assigned_part, assigned_at, assigned, shown_slot, shown_name, shown_target, assignment, target_of, targets_from, shown_target_of, shown_targets, list_assignment, deleted, deletion, tested, arms_from, branches, fitted, cases_from, cases, after_pass, passes, looped, columns_from, counted, columned, ends_at, ends_in, shared, divided, compound_at, compound_stmt, stmt_at, stmt_in, sequel, block_from, block_in, value_in}
+use Rattle.pl_meaning.specs.Parts.{Level, Values, enter, output_of, output_at, offered_of, offered, shown, shown_first, name_of, written_in, taken, answered, results_from, first_offered, results_of, results, frame_of as call_frame, with_slot, bound_in, bound, count_in, counted_in, entry_of, ran, body_of, entered, title, evaluated, assigned_whole, assigned_part, assigned_at, assigned, shown_slot, shown_name, shown_target, assignment, target_of, targets_from, shown_target_of, shown_targets, list_assignment, deleted, taken_out, deletion, tested, arms_from, branches, fitted, cases_from, cases, after_pass, passes, looped, columns_from, counted, columned, ends_at, ends_in, shared, divided, compound_at, compound_stmt, stmt_at, stmt_in, sequel, block_from, block_in, value_in}
 use Rattle.pl_unbuilt.specs.Nodes.{of_expr, of_stmt, of_arm, of_arms, of_block, frame_of}
 use Rattle.pl_built.specs.Built.{guarded, kind_of}
 use Rattle.pl_built.proofs.Shapes.{nodes_at, nodes_are, arm_nodes_are, form_is}
@@ -296,11 +296,15 @@ module _ (program : Resolved) where
 
     deleted_good : (slot : Option ℕ) (n : Name) (es : List Expr) → IsGood (deleted program l f slot n es)
     deleted_good None n es = raise_good program _
-    deleted_good (Some slot) n es = bind_good program _ (check_good program slot n.place) (λ u. bind_good program _ (places_good program (value_in program l) (value_good program l L) f slot es) (λ list. bind_good program _ (erase_part_good program slot n.place list) (λ w. pure_good program Onward)))
+    deleted_good (Some slot) n es = bind_good program _ (check_good program slot n.place) (λ u. bind_good program _ (places_good program (value_in program l) (value_good program l L) f slot es) (λ list. erase_part_good program slot n.place list))
 
-    deletion_good : (n : Name) (es : List Expr) → IsGood (deletion program l f n es)
+    taken_out_good : (n : Name) (es : List Expr) → IsGood (taken_out program l f n es)
+    unfolding taken_out
+    taken_out_good n es = deleted_good (slot_of program f n.text) n es
+
+    deletion_good : (show : Bool) (n : Name) (es : List Expr) → IsGood (deletion program l f show n es)
     unfolding deletion
-    deletion_good n es = deleted_good (slot_of program f n.text) n es
+    deletion_good show n es = bind_good program _ (taken_out_good n es) (λ u. bind_good program _ (shown_target_good show f (Whole n)) (λ w. pure_good program Onward))
 
     entering_good : (s : Stmt) (place : Place) → of_stmt program (frame_of f.scope) s ≡ [] → IsGoodIn f (enter l place (λ d. compound_stmt program d f s))
     entering_good s place none = enter_at program l L place (λ d. compound_stmt program d f s) (λ d D. compound_good d D f s none)
@@ -309,7 +313,7 @@ module _ (program : Resolved) where
     stmt_kind s none place show (StmtKind-F.Eval e) = (evaluated_good show e).at _
     stmt_kind s none place show (StmtKind-F.Assign t e) = (assignment_good show t e).at _
     stmt_kind s none place show (StmtKind-F.AssignList ts e) = (list_good place show ts e).at _
-    stmt_kind s none place show (StmtKind-F.Delete n es) = (deletion_good n es).at _
+    stmt_kind s none place show (StmtKind-F.Delete n es) = (deletion_good show n es).at _
     stmt_kind s none place show StmtKind-F.Break = (pure_good program Broke).at _
     stmt_kind s none place show StmtKind-F.Continue = (pure_good program Continued).at _
     stmt_kind s none place show StmtKind-F.Return = (pure_good program Returned).at _

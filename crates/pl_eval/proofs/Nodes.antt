@@ -113,7 +113,7 @@ pub stmt_assign_list : (program : Resolved) (l : Option Level) (f : Frame) (s : 
 unfolding stmt_in
 stmt_assign_list program l f s ts e is = ap (stmt_at program l f s s.place s.show) (ap out-StmtKind is ∙ outs-AssignList ts e)
 
-pub stmt_delete : (program : Resolved) (l : Option Level) (f : Frame) (s : Stmt) (n : Name) (es : List Expr) → s.kind ≡ stmt.Delete n es → stmt_in program l f s ≡ deletion program l f n es
+pub stmt_delete : (program : Resolved) (l : Option Level) (f : Frame) (s : Stmt) (n : Name) (es : List Expr) → s.kind ≡ stmt.Delete n es → stmt_in program l f s ≡ deletion program l f s.show n es
 unfolding stmt_in
 stmt_delete program l f s n es is = ap (stmt_at program l f s s.place s.show) (ap out-StmtKind is ∙ outs-Delete n es)
 

@@ -10,6 +10,7 @@ ghost use Rattle.pl_operators.specs.Showing.{shown_value};
 ghost use Rattle.pl_meaning.specs.Running.{tell as telling};
 ghost use Rattle.pl_meaning.specs.declared.frame.Exit.{Exit as Leaving};
 ghost use Rattle.pl_meaning.specs.Names.{slot_of as slot_named};
+ghost use Rattle.pl_syntax.specs.declared.stmt.Target.TheVariants.{Whole};
 ghost use Rattle.pl_meaning.specs.Parts.{shown as shown_part, shown_first, shown_slot, shown_target_of, shown_target as shown_target_part, shown_targets as shown_targets_part, name_of, title as title_part};
 
 use pl_access::{fail, read, tell};
@@ -151,6 +152,27 @@ fn show_variable<W: World>(
     match slot_of(program, frame, &name.text) {
         Some(slot) => show_slot(alloc, program, memory, world, name, slot),
         None => Err(fail(alloc, ErrKind::NoValue, name.place)),
+    }
+}
+
+/// A variable whole, as a target that is it is shown.
+#[tactic(auto, unfolding(pl_meaning::specs::Parts::shown_target))]
+pub(crate) fn show_name<W: World>(
+    alloc: Global,
+    program: &Resolved,
+    frame: Frame,
+    memory: &Memory<'_>,
+    world: &mut W,
+    wanted: bool,
+    name: &Name,
+) -> Result<(), Halt>
+    ensures ok { IfOk result (λ gained. Went (shown_target_part program.now wanted frame (Whole name.now)) (at memory.now (W.log world.old)) gained (at memory.now (W.log world.new))) }
+    ensures err { (x : Halt) → result ≡ Err x → Halts (shown_target_part program.now wanted frame (Whole name.now)) (at memory.now (W.log world.old)) x (at memory.now (W.log world.new)) }
+    ensures keeps { Keeps (at memory.now (W.log world.old)) (at memory.now (W.log world.new)) }
+{
+    match wanted {
+        false => Ok(()),
+        true => show_variable(alloc, program, frame, memory, world, name),
     }
 }
 

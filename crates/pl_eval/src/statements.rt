@@ -3,7 +3,7 @@
 ghost use Rattle.std.specs.Prelude.{◌≡◌, Some, Result, Ok, Err, IfOk};
 ghost use Rattle.pl_meaning.specs.declared.halt.Halt.{Halt};
 ghost use Rattle.pl_meaning.specs.Promises.{Went, Halts, Keeps, at};
-ghost use Rattle.pl_meaning.specs.Parts.{below, level_at, enter, stmt_in, compound_stmt, block_in, evaluated, deletion as deletion_part, deleted as deleted_part};
+ghost use Rattle.pl_meaning.specs.Parts.{below, level_at, enter, stmt_in, compound_stmt, block_in, evaluated, deletion as deletion_part, taken_out as taken_out_part, deleted as deleted_part};
 
 use crate::assigning::{assignment, list_assignment};
 use crate::branching::{attempt, branches, cases};
@@ -12,7 +12,7 @@ use crate::loops::{count, repeat};
 use crate::outputs::outputs;
 use crate::running::descend;
 use crate::sharing::divide;
-use crate::showing::show_first;
+use crate::showing::{show_first, show_name};
 use pl_access::{check, erase_part, fail};
 use pl_base::ErrKind;
 use pl_meaning::{Exit, Frame, Halt, Memory, World, slot_of};
@@ -88,6 +88,7 @@ fn statement<W: World>(
             frame,
             memory,
             world,
+            s.show,
             name,
             list.as_slice(),
         ),
@@ -216,7 +217,7 @@ fn evaluation<W: World>(
     )
 }
 
-/// A deletion.
+/// A deletion. What is left of the variable is shown as a target is.
 #[cycle(running)]
 #[tactic(auto, unfolding(pl_meaning::specs::Parts::deletion))]
 fn deletion<W: World>(
@@ -226,11 +227,34 @@ fn deletion<W: World>(
     frame: Frame,
     memory: &mut Memory<'_>,
     world: &mut W,
+    show: bool,
     name: &Name,
     list: &[Expr],
 ) -> Result<Exit, Halt>
-    ensures ok { IfOk result (λ gained. Went (deletion_part program.now (below program.now levels) frame name.now list.now) (at memory.old (W.log world.old)) gained (at memory.new (W.log world.new))) }
-    ensures err { (x : Halt) → result ≡ Err x → Halts (deletion_part program.now (below program.now levels) frame name.now list.now) (at memory.old (W.log world.old)) x (at memory.new (W.log world.new)) }
+    ensures ok { IfOk result (λ gained. Went (deletion_part program.now (below program.now levels) frame show name.now list.now) (at memory.old (W.log world.old)) gained (at memory.new (W.log world.new))) }
+    ensures err { (x : Halt) → result ≡ Err x → Halts (deletion_part program.now (below program.now levels) frame show name.now list.now) (at memory.old (W.log world.old)) x (at memory.new (W.log world.new)) }
+    ensures keeps { Keeps (at memory.old (W.log world.old)) (at memory.new (W.log world.new)) }
+{
+    take_out(alloc, program, levels, frame, memory, world, name, list)?;
+    show_name(alloc, program, frame, memory, world, show, name)?;
+    Ok(Exit::Onward)
+}
+
+/// A part of a variable is taken out of it.
+#[cycle(running)]
+#[tactic(auto, unfolding(pl_meaning::specs::Parts::taken_out))]
+fn take_out<W: World>(
+    alloc: Global,
+    program: &Resolved,
+    levels: u32,
+    frame: Frame,
+    memory: &mut Memory<'_>,
+    world: &mut W,
+    name: &Name,
+    list: &[Expr],
+) -> Result<(), Halt>
+    ensures ok { IfOk result (λ gained. Went (taken_out_part program.now (below program.now levels) frame name.now list.now) (at memory.old (W.log world.old)) gained (at memory.new (W.log world.new))) }
+    ensures err { (x : Halt) → result ≡ Err x → Halts (taken_out_part program.now (below program.now levels) frame name.now list.now) (at memory.old (W.log world.old)) x (at memory.new (W.log world.new)) }
     ensures keeps { Keeps (at memory.old (W.log world.old)) (at memory.new (W.log world.new)) }
 {
     match slot_of(program, frame, &name.text) {
@@ -241,7 +265,7 @@ fn deletion<W: World>(
     }
 }
 
-/// A deletion from the variable of a slot.
+/// The same, from the variable of a slot.
 #[cycle(running)]
 fn delete_at<W: World>(
     alloc: Global,
@@ -253,13 +277,12 @@ fn delete_at<W: World>(
     name: &Name,
     slot: u32,
     list: &[Expr],
-) -> Result<Exit, Halt>
+) -> Result<(), Halt>
     ensures ok { IfOk result (λ gained. Went (deleted_part program.now (below program.now levels) frame (Some slot) name.now list.now) (at memory.old (W.log world.old)) gained (at memory.new (W.log world.new))) }
     ensures err { (x : Halt) → result ≡ Err x → Halts (deleted_part program.now (below program.now levels) frame (Some slot) name.now list.now) (at memory.old (W.log world.old)) x (at memory.new (W.log world.new)) }
     ensures keeps { Keeps (at memory.old (W.log world.old)) (at memory.new (W.log world.new)) }
 {
     check(alloc, memory, world, slot, name.place)?;
     let list = places(alloc, program, levels, frame, memory, world, slot, list)?;
-    erase_part(alloc, memory, world, slot, name.place, list.as_slice())?;
-    Ok(Exit::Onward)
+    erase_part(alloc, memory, world, slot, name.place, list.as_slice())
 }

@@ -1,4 +1,6 @@
--- The accesses of a run to its workspace and its turns. Every part reaches them through these alone.
+-- The accesses of a run to its workspace and its turns. Most parts of a program reach them through these alone; what
+-- looks at the state itself is the workspace of a called function and its outputs, the check of a loop's variables and its
+-- answer, a `while`, an indexed read that may be an extra, and a question.
 use Rattle.std.specs.Prelude.{ℕ, zero, suc, List, Option, Some, None, slice_set, Result, Ok, Err}
 use Rattle.pl_base.specs.declared.errors.Place.{Place}
 use Rattle.pl_base.specs.declared.errors.ErrKind.{ErrKind}

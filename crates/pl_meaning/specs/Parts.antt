@@ -1,5 +1,5 @@
 -- What the parts of a program do: expressions, calls, statements, by cases on the tree. A part stands at a
--- number of levels that are left. Each expression node but a number, a text and a variable, each compound
+-- number of levels that are left. Each expression node but a number, a text, a variable and a colon, each compound
 -- statement and each call of a local function goes down by one level, and where none is left the error is
 -- TooDeep at its place.
 use Rattle.std.specs.Prelude.{ℕ, zero, suc, ◌+◌, ◌-◌, nat_lt, List, [], ◌∷◌, ◌++◌, length, replicate, position, slice_get, slice_set, take, drop, Bool, true, false, codes, pos, ◌||◌, Option, Some, None, Result, if◌then◌else◌}
@@ -503,13 +503,17 @@ module _ (program : Resolved) where
   unfoldable pub list_assignment : Option Level → Frame → Place → Bool → List (Option Target) → Expr → Running Exit
   list_assignment l f place show ts e = listed_in l f (length ts) e >>= (λ vs. targets_from l f place ts vs >>= (λ u. shown_targets show f ts >>= (λ w. pure Onward)))
 
-  -- a deletion
-  abbrev pub deleted : Option Level → Frame → Option ℕ → Name → List Expr → Running Exit
+  -- a part of a variable is taken out of it
+  abbrev pub deleted : Option Level → Frame → Option ℕ → Name → List Expr → Running (Unit {0})
   deleted l f None n es = fail NoValue n.place
-  deleted l f (Some slot) n es = check slot n.place >>= (λ u. places (value_in l) f slot es >>= (λ list. erase_part slot n.place list >>= (λ w. pure Onward)))
+  deleted l f (Some slot) n es = check slot n.place >>= (λ u. places (value_in l) f slot es >>= (λ list. erase_part slot n.place list))
 
-  unfoldable pub deletion : Option Level → Frame → Name → List Expr → Running Exit
-  deletion l f n es = deleted l f (slot_of program f n.text) n es
+  unfoldable pub taken_out : Option Level → Frame → Name → List Expr → Running (Unit {0})
+  taken_out l f n es = deleted l f (slot_of program f n.text) n es
+
+  -- a deletion: the variable that is left is shown as a target is
+  unfoldable pub deletion : Option Level → Frame → Bool → Name → List Expr → Running Exit
+  deletion l f show n es = taken_out l f n es >>= (λ u. shown_target show f (Whole n) >>= (λ w. pure Onward))
 
   -- a test
   unfoldable pub tested : Values → Frame → Place → Expr → Running Bool
@@ -604,7 +608,7 @@ module _ (program : Resolved) where
   stmt_at l f s place show (StmtKind-F.Eval e) = evaluated l f show e
   stmt_at l f s place show (StmtKind-F.Assign t e) = assignment l f show t e
   stmt_at l f s place show (StmtKind-F.AssignList ts e) = list_assignment l f place show ts e
-  stmt_at l f s place show (StmtKind-F.Delete n es) = deletion l f n es
+  stmt_at l f s place show (StmtKind-F.Delete n es) = deletion l f show n es
   stmt_at l f s place show StmtKind-F.Break = pure Broke
   stmt_at l f s place show StmtKind-F.Continue = pure Continued
   stmt_at l f s place show StmtKind-F.Return = pure Returned

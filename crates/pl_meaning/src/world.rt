@@ -8,8 +8,8 @@ use crate::halt::Stop;
 use pl_base::Or;
 use pl_values::Env;
 
-/// What a run speaks to. Its log has the choices under which it answered, the events that it was told, whether it
-/// answered `Stop`, and the rules by which choices make an answer.
+/// What a run speaks to. Its log has the choices under which it answered, the bytes that it was told to show, how
+/// often it answered `Stop`, and the rules by which choices make an answer.
 pub trait World {
     ghost log: { Self → Log };
 

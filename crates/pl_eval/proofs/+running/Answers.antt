@@ -1,7 +1,7 @@
 use Rattle.std.proofs.Common.{◌≡◌, ◌+◌, ◌-◌, ◌<◌, [], ◌∷◌, ◌++◌, length, drop, true, false, refl, ◌∙◌, sym, ap, arith}
 use Rattle.pl_meaning.specs.declared.halt.Halt.{Halt}
 use Rattle.pl_meaning.specs.Promises.{view, at, from}
-use Rattle.pl_meaning.specs.Parts.{below, level_at, value_in, outputs_in, listed_in, evaluated, shown_first, title, after_pass, columns_from, passes, looped, first_of, applied, call_name, unary, binary, operator, deletion, entry_of, ran, argument_of, values_from, given_of, elements_from, elements as elements_part, rows_from, tested, stmt_in, sequel, block_from, values as values_part, rows as rows_part, block_in, called}
+use Rattle.pl_meaning.specs.Parts.{below, level_at, value_in, outputs_in, listed_in, evaluated, shown_first, title, after_pass, columns_from, passes, looped, first_of, applied, call_name, unary, binary, operator, taken_out, entry_of, ran, argument_of, values_from, given_of, elements_from, elements as elements_part, rows_from, tested, stmt_in, sequel, block_from, values as values_part, rows as rows_part, block_in, called}
 use Rattle.pl_eval.proofs.Chains.{after_halts, after_went, comes_after, comes_cut, comes_halts, comes_item, comes_pass, first_halts, goes_on, inside_halts, inside_went, keeps_on, ok_more, same_err, same_halt}
 use Rattle.pl_eval.proofs.Nodes.{call_counted, call_found, compound_apply, compound_binary, compound_func, compound_range, compound_rows, compound_unary, ends_range, inner_for, inner_if, inner_parfor, inner_switch, inner_try, inner_while, stmt_assign, stmt_assign_list, stmt_delete, stmt_eval, stmt_nested, value_chars, value_nested, value_var}
 use Rattle.std.specs.Option.{option_copied}
@@ -209,13 +209,13 @@ applying::application-returns-in-None-clause-ok g t c = rw (sym c.slot_of.ensure
 pub applying::application-returns-in-None-clause-err : goal.applying::application-returns-in-None-clause-err
 applying::application-returns-in-None-clause-err g t c = rw (sym c.slot_of.ensures ∙ c.in-None.is) (c.applied_once.ensures.err)
 
-pub statements::deletion-returns-in-Some-clause-ok : goal.statements::deletion-returns-in-Some-clause-ok
-unfolding deletion
-statements::deletion-returns-in-Some-clause-ok g t c = rw (sym c.slot_of.ensures ∙ c.in-Some.is) (c.delete_at.ensures.ok)
+pub statements::take_out-returns-in-Some-clause-ok : goal.statements::take_out-returns-in-Some-clause-ok
+unfolding taken_out
+statements::take_out-returns-in-Some-clause-ok g t c = rw (sym c.slot_of.ensures ∙ c.in-Some.is) (c.delete_at.ensures.ok)
 
-pub statements::deletion-returns-in-Some-clause-err : goal.statements::deletion-returns-in-Some-clause-err
-unfolding deletion
-statements::deletion-returns-in-Some-clause-err g t c = rw (sym c.slot_of.ensures ∙ c.in-Some.is) (c.delete_at.ensures.err)
+pub statements::take_out-returns-in-Some-clause-err : goal.statements::take_out-returns-in-Some-clause-err
+unfolding taken_out
+statements::take_out-returns-in-Some-clause-err g t c = rw (sym c.slot_of.ensures ∙ c.in-Some.is) (c.delete_at.ensures.err)
 
 pub calling::call_known-returns-in-Some-clause-ok : goal.calling::call_known-returns-in-Some-clause-ok
 calling::call_known-returns-in-Some-clause-ok g t c = rw c.in-Some.is (c.call_library.ensures.ok)

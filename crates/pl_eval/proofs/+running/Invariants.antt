@@ -195,7 +195,10 @@ abbrev pub decreases-statements::evaluation : goal.decreases-statements::evaluat
 decreases-statements::evaluation g l = 32 * l.levels + 6
 
 abbrev pub decreases-statements::deletion : goal.decreases-statements::deletion
-decreases-statements::deletion g l = 32 * l.levels + 7
+decreases-statements::deletion g l = 32 * l.levels + 8
+
+abbrev pub decreases-statements::take_out : goal.decreases-statements::take_out
+decreases-statements::take_out g l = 32 * l.levels + 7
 
 abbrev pub decreases-statements::delete_at : goal.decreases-statements::delete_at
 decreases-statements::delete_at g l = 32 * l.levels + 6
