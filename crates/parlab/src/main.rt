@@ -5,10 +5,8 @@
 //! contract is that of the top call, and `main` has the real ones made and no more.
 #![tactic(auto)]
 
-ghost use Rattle.std.specs.Prelude.{◌≡◌, ◌<◌, ◌⊎◌};
 ghost use Rattle.std.specs.Process.{exit_status};
-ghost use Rattle.pl_io.specs.Faults.{Rose};
-ghost use Rattle.parlab.specs.Carried.{Says};
+ghost use Rattle.parlab.specs.Carried.{Says, side};
 
 use pl_base::{Free, NoMemory, Text, Word};
 use pl_io::{Files, RealFiles, RealSink, Sink};
@@ -47,13 +45,7 @@ fn carry<F: Files, K: Sink, N: Sink, R: Threads + Wait + Sync>(
     out: &mut K,
     notes: &mut N,
 ) -> ExitCode
-    ensures says { Says words.now (F.bytes files.old) (K.written out.old) (K.written out.new) (N.written notes.old) (N.written notes.new) (exit_status result) }
-    ensures quiet { exit_status result ≡ 0 → notes.new ≡ notes.old }
-    ensures silent { (exit_status result ≡ 2) ⊎ (exit_status result ≡ 3) ⊎ (exit_status result ≡ 5) ⊎ (exit_status result ≡ 7) → out.new ≡ out.old }
-    ensures read { exit_status result ≡ 3 → Rose (F.faults files.old) (F.faults files.new) }
-    ensures write { exit_status result ≡ 4 → Rose (K.faults out.old) (K.faults out.new) ⊎ Rose (N.faults notes.old) (N.faults notes.new) }
-    ensures out_grew { K.faults out.old < K.faults out.new → exit_status result ≡ 4 }
-    ensures notes_grew { N.faults notes.old < N.faults notes.new → exit_status result ≡ 4 }
+    ensures { Says words.now (side F.bytes F.faults files.old files.new) (side K.written K.faults out.old out.new) (side N.written N.faults notes.old notes.new) (exit_status result) }
 {
     let ended = pl_session::top(rt, alloc, words, files, out, notes, &Free);
     ExitCode::from(ended.status.0)

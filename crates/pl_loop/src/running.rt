@@ -90,7 +90,8 @@ fn by_passes(
 }
 
 /// Runs a loop over workers from the workspace `env`, each iteration with so many turns and levels, and answers it
-/// under a choice that is legal.
+/// under a choice that is legal. Want of memory is also answered where an iteration asks a question, or the index goes
+/// past 64 bits; neither comes about for the loops that are built.
 pub fn run_loop(
     alloc: Global,
     program: &Resolved,

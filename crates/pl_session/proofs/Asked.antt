@@ -10,14 +10,15 @@ use Rattle.pl_meaning.specs.declared.event.Loop.{Loop}
 use Rattle.pl_meaning.specs.declared.event.Question.{Question}
 use Rattle.pl_meaning.specs.Logs.{Workspace, Trace, Log, Answered, question_of, loop_question}
 use Rattle.pl_meaning.specs.Loops.{loop_answer, loop_rules, reply_of, no_extra}
+use Rattle.pl_session.specs.Levels.{levels}
 
 module _ (program : Resolved) (turns : ℕ) (env : Workspace) (shown : Option (List Trace)) (stops : ℕ) (sink : Option GName) where
   -- the log of a session's world that answered under these choices
   abbrev pub logged : List Choice → Log
-  logged given = record { given = given; shown = shown; stops = stops; sink = sink; rules = loop_rules program turns 1000 }
+  logged given = record { given = given; shown = shown; stops = stops; sink = sink; rules = loop_rules program turns levels }
 
   -- a loop, under a choice that is legal
-  pub loop_answered : (asked : Question) (l : Loop) (c : Choice) (a : Answer) (given new : List Choice) → asked ≡ Question.Loop l → loop_answer program turns 1000 (loop_question l) env c ≡ Some a → new ≡ given ++ c ∷ [] → Answered env (question_of asked) (Ok a) (logged given) (logged new)
+  pub loop_answered : (asked : Question) (l : Loop) (c : Choice) (a : Answer) (given new : List Choice) → asked ≡ Question.Loop l → loop_answer program turns levels (loop_question l) env c ≡ Some a → new ≡ given ++ c ∷ [] → Answered env (question_of asked) (Ok a) (logged given) (logged new)
   unfolding loop_rules
   loop_answered asked l c a given new is legal grew = subst (λ (q : Question). Answered env (question_of q) (Ok a) (logged given) (logged new)) (sym is) (c ∷ [], ([], (λ more. ap (reply_of [] more) legal), ap logged grew))
 

@@ -19,6 +19,7 @@ use Rattle.pl_meaning.specs.Runs.{Run, Carries}
 use Rattle.pl_meaning.specs.Loops.{loop_rules}
 use Rattle.pl_session.specs.declared.carrying.Fate.{Fate}
 use Rattle.pl_session.specs.declared.carrying.Fate.TheVariants as fate
+use Rattle.pl_session.specs.Levels.{levels}
 use Rattle.pl_session.specs.Told.{told}
 use Rattle.pl_session.specs.Printing.{start_of, run_of, CarriedOut, Fated}
 use Rattle.pl_session.proofs.Printed.{all_told, part_told}
@@ -52,26 +53,26 @@ carried_memory o x old new before now n s r = (part_told old new o.shown n s, r)
 -- an end of the run is the session's
 pub carried_so : (r : Resolved) (turns : ℕ) (choices old_choices : List Choice) (start : Workspace) (x : Result Ended NoMemory) (f : Result Fate NoMemory) (old new : Option (List ℕ)) (before now : ℕ) (s t : Option GName) (u : Rules)
     → start ≡ start_of r → Fated x f
-    → Carries (Run r start turns 1000 (loop_rules r turns 1000) choices) x (record { given = old_choices; shown = told old; stops = before; sink = s; rules = loop_rules r turns 1000 }) (record { given = choices; shown = told new; stops = now; sink = t; rules = u })
+    → Carries (Run r start turns levels (loop_rules r turns levels) choices) x (record { given = old_choices; shown = told old; stops = before; sink = s; rules = loop_rules r turns levels }) (record { given = choices; shown = told new; stops = now; sink = t; rules = u })
     → CarriedOut (run_of r turns choices) f old new before now
 carried_so r turns choices old_choices start (Ok (ended.Done env)) f old new before now s t u same is c =
     let o : Outcome = run_of r turns choices in
-    let e : Run r start turns 1000 (loop_rules r turns 1000) choices ≡ o = ap (λ w. Run r w turns 1000 (loop_rules r turns 1000) choices) same in
+    let e : Run r start turns levels (loop_rules r turns levels) choices ≡ o = ap (λ w. Run r w turns levels (loop_rules r turns levels) choices) same in
     subst (λ (y : Result Fate NoMemory). CarriedOut o y old new before now) (sym is)
     (carried_done o env old new before now (ap (λ (v : Outcome). v.ending) (sym e) ∙ c.0) (c.1.0 ∙ ap (λ (v : Outcome). grown (told old) v.shown) e) c.1.1)
 carried_so r turns choices old_choices start (Ok (ended.Raised x)) f old new before now s t u same is c =
     let o : Outcome = run_of r turns choices in
-    let e : Run r start turns 1000 (loop_rules r turns 1000) choices ≡ o = ap (λ w. Run r w turns 1000 (loop_rules r turns 1000) choices) same in
+    let e : Run r start turns levels (loop_rules r turns levels) choices ≡ o = ap (λ w. Run r w turns levels (loop_rules r turns levels) choices) same in
     subst (λ (y : Result Fate NoMemory). CarriedOut o y old new before now) (sym is)
     (carried_raised o x old new before now (ap (λ (v : Outcome). v.ending) (sym e) ∙ c.0) (c.1.0 ∙ ap (λ (v : Outcome). grown (told old) v.shown) e) c.1.1)
 carried_so r turns choices old_choices start (Ok ended.Stopped) f old new before now s t u same is c =
     let o : Outcome = run_of r turns choices in
-    let e : Run r start turns 1000 (loop_rules r turns 1000) choices ≡ o = ap (λ w. Run r w turns 1000 (loop_rules r turns 1000) choices) same in
+    let e : Run r start turns levels (loop_rules r turns levels) choices ≡ o = ap (λ w. Run r w turns levels (loop_rules r turns levels) choices) same in
     subst (λ (y : Result Fate NoMemory). CarriedOut o y old new before now) (sym is)
     (carried_stopped o old new before now c.0.0 (c.0.1 ∙ ap (λ (v : Outcome). grown (told old) (take c.0.0 v.shown)) e) c.1)
 carried_so r turns choices old_choices start (Err x) f old new before now s t u same is c =
     let o : Outcome = run_of r turns choices in
-    let e : Run r start turns 1000 (loop_rules r turns 1000) choices ≡ o = ap (λ w. Run r w turns 1000 (loop_rules r turns 1000) choices) same in
+    let e : Run r start turns levels (loop_rules r turns levels) choices ≡ o = ap (λ w. Run r w turns levels (loop_rules r turns levels) choices) same in
     subst (λ (y : Result Fate NoMemory). CarriedOut o y old new before now) (sym is)
     (carried_memory o x old new before now c.0.0 (c.0.1 ∙ ap (λ (v : Outcome). grown (told old) (take c.0.0 v.shown)) e) c.1)
 

@@ -2,7 +2,9 @@
 use Rattle.std.proofs.Common.{◌≡◌, ℕ, ◌≤◌, ◌⊎◌, inl, inr, List, [], length, take, Option, Some, None, IfSome, sym, ◌∙◌, ap, arith}
 use Rattle.std.proofs.lemmas.List.{take_all}
 use Rattle.pl_io.specs.Whole.{IsWhole}
-use Rattle.pl_source.specs.Sources.{Refuses}
+use Rattle.pl_resolve.specs.declared.resolved.Resolved.{Resolved}
+use Rattle.pl_source.specs.Sources.{Ready, Refuses}
+use Rattle.pl_session.specs.Ends.{IsRefused, IsUnrun}
 
 -- of two statuses neither is a third
 pub neither : (s a b x : ℕ) → (s ≡ a) ⊎ (s ≡ b) → s ≡ x → (a ≡ x → ⊥) → (b ≡ x → ⊥) → ⊥
@@ -41,3 +43,16 @@ no_nine status (inr (inr a)) b = omega (arith, a, b)
 pub not_nine : (status : ℕ) → (status ≡ 5) ⊎ (status ≡ 4) → status ≡ 9 → ⊥
 not_nine status (inl a) b = omega (arith, a, b)
 not_nine status (inr a) b = omega (arith, a, b)
+
+pub not_three_nine : (status : ℕ) → (status ≡ 3) ⊎ (status ≡ 4) → status ≡ 9 → ⊥
+not_three_nine status (inl a) b = omega (arith, a, b)
+not_three_nine status (inr a) b = omega (arith, a, b)
+
+-- a script that can be run isn't refused
+module _ (never_both : (source : List ℕ) (r : Resolved) (status : ℕ) (line : List ℕ) → Ready source r → Refuses source status line → ⊥) (script : List ℕ) (r : Resolved) (short : length script ≤ 1000000) (ready : Ready script r) where
+  not_refused : (status : ℕ) (line : List ℕ) → IsRefused script status line → ⊥
+  not_refused status line (inl long) = omega (arith, short, long.0)
+  not_refused status line (inr refuses) = never_both script r status line ready refuses.1
+
+  pub not_unrun : IsUnrun script → ⊥
+  not_unrun unrun = not_refused unrun.0 unrun.1.0 unrun.1.1

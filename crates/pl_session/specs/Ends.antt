@@ -4,14 +4,15 @@ use Rattle.std.specs.Io.KnownBytes.{Appends}
 use Rattle.pl_base.specs.declared.choice.Choice.{Choice}
 use Rattle.pl_base.specs.declared.errors.ScriptError.{ScriptError}
 use Rattle.pl_errors.specs.Errors.{error_line}
+use Rattle.pl_io.specs.Faults.{Rose}
 use Rattle.pl_io.specs.Told.{AppendsPrefix}
 use Rattle.pl_resolve.specs.declared.resolved.Resolved.{Resolved}
 use Rattle.pl_meaning.specs.Logs.{Workspace}
+use Rattle.pl_meaning.specs.Loops.{text_of}
 use Rattle.pl_meaning.specs.Running.{Outcome, Done, Raised}
 use Rattle.pl_source.specs.Sources.{Ready, Refuses}
 use Rattle.pl_session.specs.declared.ended.Journal.{Journal}
 use Rattle.pl_session.specs.Lines.{too_long_line, cannot_read_line}
-use Rattle.pl_session.specs.Told.{printed}
 use Rattle.pl_session.specs.Printing.{run_of}
 use Rattle.pl_session.specs.Words.{Command}
 
@@ -31,21 +32,21 @@ IsRefused script status line =
 
 -- the script ended, and the sink grew by all that it prints
 abbrev pub Ends : List ℕ → ℕ → List Choice → Option (List ℕ) → Option (List ℕ) → Type 0
-Ends script turns choices old new = (o : Outcome) × Runs script turns choices o × IsDone o × Appends old new (printed o.shown)
+Ends script turns choices old new = (o : Outcome) × Runs script turns choices o × IsDone o × Appends old new (text_of o.shown)
 
 -- the script raised an error: the sink grew by all that it prints, and the notes by the error's line
 abbrev pub Raises : List ℕ → ℕ → List Choice → Option (List ℕ) → Option (List ℕ) → Option (List ℕ) → Option (List ℕ) → Type 0
 Raises script turns choices old new notes_old notes_new =
-    (o : Outcome) × Runs script turns choices o × ((e : ScriptError) × (o.ending ≡ Raised e []) × Appends notes_old notes_new (error_line e)) × Appends old new (printed o.shown)
+    (o : Outcome) × Runs script turns choices o × ((e : ScriptError) × (o.ending ≡ Raised e []) × Appends notes_old notes_new (error_line e)) × Appends old new (text_of o.shown)
 
 -- the sink grew by the first bytes of what the script prints, or not at all
 abbrev pub PrintsPart : List ℕ → ℕ → List Choice → Option (List ℕ) → Option (List ℕ) → Type 0
-PrintsPart script turns choices old new = (old ≡ new) ⊎ ((o : Outcome) × Runs script turns choices o × AppendsPrefix old new (printed o.shown))
+PrintsPart script turns choices old new = (old ≡ new) ⊎ ((o : Outcome) × Runs script turns choices o × AppendsPrefix old new (text_of o.shown))
 
 -- the script raised an error, and the sink grew by all that it prints before
 abbrev pub SaysAll : List ℕ → ℕ → List Choice → Option (List ℕ) → Option (List ℕ) → Type 0
 SaysAll script turns choices old new =
-    (o : Outcome) × Runs script turns choices o × ((e : ScriptError) × (o.ending ≡ Raised e [])) × Appends old new (printed o.shown)
+    (o : Outcome) × Runs script turns choices o × ((e : ScriptError) × (o.ending ≡ Raised e [])) × Appends old new (text_of o.shown)
 
 -- the script isn't run, for some reason
 abbrev pub IsUnrun : List ℕ → Type 0
@@ -65,9 +66,9 @@ IsLine script turns choices line =
 abbrev pub NotesPart : List ℕ → ℕ → List Choice → Option (List ℕ) → Option (List ℕ) → Type 0
 NotesPart script turns choices old new = (old ≡ new) ⊎ ((line : List ℕ) × IsLine script turns choices line × AppendsPrefix old new line)
 
--- or by the first bytes of the line of a file of this name that can't be read
-abbrev pub LinePart : List ℕ → List ℕ → ℕ → List Choice → Option (List ℕ) → Option (List ℕ) → Type 0
-LinePart name script turns choices old new = NotesPart script turns choices old new ⊎ AppendsPrefix old new (cannot_read_line name)
+-- or by the first bytes of the line of a file of this name that can't be read, and the count of faults of the files, before and now, rose
+abbrev pub LinePart : List ℕ → List ℕ → ℕ → List Choice → Option (List ℕ) → Option (List ℕ) → ℕ → ℕ → Type 0
+LinePart name script turns choices old new before now = NotesPart script turns choices old new ⊎ (AppendsPrefix old new (cannot_read_line name) × Rose before now)
 
 -- choices under the command's limits
 abbrev pub journal_of : Option Command → List Choice → Journal

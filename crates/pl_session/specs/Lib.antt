@@ -1,5 +1,6 @@
 pub mod Words
 pub mod Lines
+pub mod Levels
 pub mod Told
 pub mod Printing
 pub mod Ends

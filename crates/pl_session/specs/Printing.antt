@@ -12,8 +12,8 @@ use Rattle.pl_meaning.specs.Logs.{Workspace}
 use Rattle.pl_meaning.specs.Names.{names_in}
 use Rattle.pl_meaning.specs.Running.{Outcome, Done, Raised}
 use Rattle.pl_meaning.specs.Runs.{Run}
-use Rattle.pl_meaning.specs.Loops.{loop_rules}
-use Rattle.pl_session.specs.Told.{printed}
+use Rattle.pl_meaning.specs.Loops.{loop_rules, text_of}
+use Rattle.pl_session.specs.Levels.{levels}
 use Rattle.pl_session.specs.declared.carrying.Fate.{Fate}
 use Rattle.pl_session.specs.declared.carrying.Fate.TheVariants as fate
 
@@ -23,7 +23,7 @@ start_of r = replicate (length (names_in r 0)) None
 
 -- the run of a script with so many turns, under these choices of its loops
 abbrev pub run_of : Resolved → ℕ → List Choice → Outcome
-run_of r turns choices = Run r (start_of r) turns 1000 (loop_rules r turns 1000) choices
+run_of r turns choices = Run r (start_of r) turns levels (loop_rules r turns levels) choices
 
 -- what an end of a run is for a session
 abbrev pub Fated : Result Ended NoMemory → Result Fate NoMemory → Type 0
@@ -35,7 +35,7 @@ Fated (Err e) f = f ≡ Err e
 -- how a script was carried out, whose sink held and told this before and after: all was printed, no choice is left over, and no fault rose; or the
 -- beginning, and a fault rose, or there was no memory
 abbrev pub CarriedOut : Outcome → Result Fate NoMemory → Option (List ℕ) → Option (List ℕ) → ℕ → ℕ → Type 0
-CarriedOut o (Ok fate.Done) old new before now = ((env : Workspace) × (o.ending ≡ Done env [])) × Appends old new (printed o.shown) × (now ≡ before)
-CarriedOut o (Ok (fate.Raised e)) old new before now = (o.ending ≡ Raised e []) × Appends old new (printed o.shown) × (now ≡ before)
-CarriedOut o (Ok fate.Stopped) old new before now = AppendsPrefix old new (printed o.shown) × Rose before now
-CarriedOut o (Err e) old new before now = AppendsPrefix old new (printed o.shown) × (now ≡ before)
+CarriedOut o (Ok fate.Done) old new before now = ((env : Workspace) × (o.ending ≡ Done env [])) × Appends old new (text_of o.shown) × (now ≡ before)
+CarriedOut o (Ok (fate.Raised e)) old new before now = (o.ending ≡ Raised e []) × Appends old new (text_of o.shown) × (now ≡ before)
+CarriedOut o (Ok fate.Stopped) old new before now = AppendsPrefix old new (text_of o.shown) × Rose before now
+CarriedOut o (Err e) old new before now = AppendsPrefix old new (text_of o.shown) × (now ≡ before)

@@ -14,7 +14,7 @@ use pl_resolve::Resolved;
 use pl_values::Env;
 use std::alloc::Global;
 
-/// The most levels of a run.
+/// The most levels of calls of a run.
 pub(crate) const DEPTH: u32 = 1_000;
 
 /// A world that writes to a sink, and answers a program's loops, whose activities have so many turns each. It stops
@@ -41,9 +41,10 @@ fn refused(alloc: Global) -> Result<Answer, NoMemory>
 impl<K: Sink> World for Client<'_, K> {
     ghost use Rattle.std.specs.Prelude.{Some};
     ghost use Rattle.pl_meaning.specs.Loops.{loop_rules};
+    ghost use Rattle.pl_session.specs.Levels.{levels};
     ghost use Rattle.pl_session.specs.Told.{told};
 
-    ghost log = { λ c. record { given = c.entries.now; shown = told (K.written c.out.now); stops = K.faults c.out.now; sink = Some c.out.ghost_name; rules = loop_rules c.program.now c.turns 1000 } };
+    ghost log = { λ c. record { given = c.entries.now; shown = told (K.written c.out.now); stops = K.faults c.out.now; sink = Some c.out.ghost_name; rules = loop_rules c.program.now c.turns levels } };
 
     fn event(&mut self, event: Event) -> Result<(), Or<Stop>> {
         match event {

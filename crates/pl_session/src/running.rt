@@ -16,7 +16,7 @@ use pl_base::{Choice, Or, ScriptError, Seq};
 use pl_errors::write_line;
 use pl_io::Sink;
 use pl_resolve::Resolved;
-use pl_source::{Refusal, ready};
+use pl_source::{Refusal, one_answer, ready};
 use std::alloc::Global;
 
 /// Ends with the line of an error.
@@ -134,7 +134,9 @@ pub(crate) fn run_source<K: Sink, N: Sink>(
     ensures script { result.script ≡ source.items }
     ensures journal { result.journal ≡ record { version = 1; workers = limits.workers; turns = limits.turns; entries = result.journal.entries } }
     ensures no_choice { (result.status.0 ≡ 5) ⊎ (result.status.0 ≡ 7) → result.journal.entries ≡ [] }
+    ensures no_choice_unrun { IsUnrun source.items → result.journal.entries ≡ [] }
 {
+    one_answer();
     let read = ready(alloc, source.as_slice());
     let script = Seq::of(source);
     match read {

@@ -43,7 +43,7 @@ fn run_file<F: Files, K: Sink, N: Sink>(
     ensures unread { result.status.0 ≡ 3 → Appends (N.written notes.old) (N.written notes.new) (cannot_read_line name.now) }
     ensures silent { (result.status.0 ≡ 3) ⊎ (result.status.0 ≡ 5) ⊎ (result.status.0 ≡ 7) → out.new ≡ out.old }
     ensures part { (result.status.0 ≡ 4) ⊎ (result.status.0 ≡ 9) → PrintsPart result.script limits.turns result.journal.entries (K.written out.old) (K.written out.new) }
-    ensures notes_part { (result.status.0 ≡ 4) ⊎ (result.status.0 ≡ 9) → LinePart name.now result.script limits.turns result.journal.entries (N.written notes.old) (N.written notes.new) }
+    ensures notes_part { (result.status.0 ≡ 4) ⊎ (result.status.0 ≡ 9) → LinePart name.now result.script limits.turns result.journal.entries (N.written notes.old) (N.written notes.new) (F.faults files.old) (F.faults files.new) }
     ensures read { result.status.0 ≡ 3 → Rose (F.faults files.old) (F.faults files.new) }
     ensures read_grew { F.faults files.old < F.faults files.new → (result.status.0 ≡ 3) ⊎ (result.status.0 ≡ 4) }
     ensures cause { result.status.0 ≡ 4 → Rose (K.faults out.old) (K.faults out.new) ⊎ Rose (N.faults notes.old) (N.faults notes.new) }
@@ -58,6 +58,8 @@ fn run_file<F: Files, K: Sink, N: Sink>(
     ensures told { Stays (F.bytes files.old) (F.bytes files.new) }
     ensures journal { result.journal ≡ record { version = 1; workers = limits.workers; turns = limits.turns; entries = result.journal.entries } }
     ensures no_choice { (result.status.0 ≡ 3) ⊎ (result.status.0 ≡ 5) ⊎ (result.status.0 ≡ 7) → result.journal.entries ≡ [] }
+    ensures no_choice_unread { F.faults files.old < F.faults files.new → result.journal.entries ≡ [] }
+    ensures no_choice_unrun { IsUnrun result.script → result.journal.entries ≡ [] }
 {
     match read_all(alloc, files, name, MOST_BYTES) {
         Ok(source) => run_source(alloc, source, limits, out, notes),
@@ -121,7 +123,7 @@ pub fn top<F: Files, K: Sink, N: Sink, G: Gate, R: Threads + Wait + Sync>(
     // Statuses 4 and 9: what was written is the beginning of what would have been.
     ensures part { (result.status.0 ≡ 4) ⊎ (result.status.0 ≡ 9) → PrintsPart result.script result.journal.turns result.journal.entries (K.written out.old) (K.written out.new) }
     ensures usage_part { command_in words.now ≡ None → result.status.0 ≡ 4 → AppendsPrefix (N.written notes.old) (N.written notes.new) usage_line }
-    ensures notes_part { (command : Order) → command_in words.now ≡ Some command → (result.status.0 ≡ 4) ⊎ (result.status.0 ≡ 9) → LinePart command.name result.script result.journal.turns result.journal.entries (N.written notes.old) (N.written notes.new) }
+    ensures notes_part { (command : Order) → command_in words.now ≡ Some command → (result.status.0 ≡ 4) ⊎ (result.status.0 ≡ 9) → LinePart command.name result.script result.journal.turns result.journal.entries (N.written notes.old) (N.written notes.new) (F.faults files.old) (F.faults files.new) }
 
     // A call stops at its first write fault: behind one on the output nothing goes to the notes; where only the notes failed,
     // the output has all that the script prints, or the script wasn't run. Where memory was wanting the notes are as they were.
@@ -136,10 +138,13 @@ pub fn top<F: Files, K: Sink, N: Sink, G: Gate, R: Threads + Wait + Sync>(
     ensures no_script_of_usage { command_in words.now ≡ None → result.script ≡ [] }
     ensures told { Stays (F.bytes files.old) (F.bytes files.new) }
 
-    // The journal has the choices of the run, and the command's limits, or the default ones; what isn't run made no choice.
+    // The journal has the choices of the run, and the command's limits, or the default ones; what can't be read or isn't run made
+    // no choice, whatever the status.
     ensures journal { result.journal ≡ journal_of (command_in words.now) result.journal.entries }
     ensures no_choice { (result.status.0 ≡ 2) ⊎ (result.status.0 ≡ 3) ⊎ (result.status.0 ≡ 5) ⊎ (result.status.0 ≡ 7) → result.journal.entries ≡ [] }
     ensures no_choice_of_usage { command_in words.now ≡ None → result.journal.entries ≡ [] }
+    ensures no_choice_unread { F.faults files.old < F.faults files.new → result.journal.entries ≡ [] }
+    ensures no_choice_unrun { IsUnrun result.script → result.journal.entries ≡ [] }
 {
     match command_of(words) {
         Some(command) => {

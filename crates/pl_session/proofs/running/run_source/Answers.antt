@@ -1,6 +1,6 @@
-use Rattle.std.proofs.Common.{ℕ, List, inl, inr, refl, subst}
+use Rattle.std.proofs.Common.{rules, ℕ, List, inl, inr, refl, subst}
 use Rattle.pl_session.specs.Ends.{PrintsPart, NotesPart, SaysAll, IsUnrun, WritesRefusal}
-use Rattle.pl_session.proofs.Refused.{no_nine}
+use Rattle.pl_session.proofs.Refused.{no_nine, not_unrun}
 use Rattle.pl_session.proofs.running.run_source.Goals as goal
 
 pub returns-in-Ok-clause-part : goal.returns-in-Ok-clause-part
@@ -29,3 +29,7 @@ returns-in-Ok-clause-said g c = λ ends.
 
 pub returns-in-Err-Is-clause-said : goal.returns-in-Err-Is-clause-said
 returns-in-Err-Is-clause-said g c = λ ends. inr (inr (refl, subst IsUnrun c.of-script.ensures c.end_with_refusal.ensures.unrun))
+
+-- what is run isn't refused
+pub returns-in-Ok-clause-no_choice_unrun : goal.returns-in-Ok-clause-no_choice_unrun
+returns-in-Ok-clause-no_choice_unrun g c = λ unrun. absurd (not_unrun c.one_answer.ensures.never_both c.args.source.items c.in-Ok.resolved (search rules) (search rules) unrun)

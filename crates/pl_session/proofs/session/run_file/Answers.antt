@@ -1,7 +1,8 @@
 use Rattle.std.proofs.Common.{rules, ℕ, List, inl, inr, refl, subst, sym}
+use Rattle.pl_io.proofs.Counts.{counted_rose}
 use Rattle.pl_session.specs.Lines.{too_long_line}
 use Rattle.pl_session.specs.Ends.{Ends, Raises, PrintsPart, NotesPart, SaysAll, IsUnrun, WritesRefusal}
-use Rattle.pl_session.proofs.Refused.{whole_taken, part_taken, not_nine}
+use Rattle.pl_session.proofs.Refused.{whole_taken, part_taken, not_nine, not_three_nine}
 use Rattle.pl_session.proofs.session.run_file.Goals as goal
 
 pub returns-in-Ok-clause-done : goal.returns-in-Ok-clause-done
@@ -48,3 +49,11 @@ returns-in-Ok-clause-said g c = λ ends.
 
 pub returns-in-Err-Is-TooLong-clause-said : goal.returns-in-Err-Is-TooLong-clause-said
 returns-in-Err-Is-TooLong-clause-said g c = λ ends. inr (inr (refl, inl (subst IsUnrun (sym c.close.ensures.script) (5, (too_long_line, inl (search rules, refl, refl))))))
+
+-- a file that can't be read
+pub returns-in-Err-Is-Failed-clause-notes_part : goal.returns-in-Err-Is-Failed-clause-notes_part
+returns-in-Err-Is-Failed-clause-notes_part g c = λ ends.
+    inr (c.cannot_read.ensures.part (elim ends [ inl four ↦ four | inr nine ↦ absurd (not_three_nine c.cannot_read.result.status.0 c.cannot_read.ensures.statuses nine) ]), counted_rose _ _ (c.read_all.ensures.failed (search rules)))
+
+pub returns-in-Ok-clause-no_choice_unrun : goal.returns-in-Ok-clause-no_choice_unrun
+returns-in-Ok-clause-no_choice_unrun g c = λ unrun. c.run_source.ensures.no_choice_unrun (subst IsUnrun c.run_source.ensures.script unrun)
