@@ -1,5 +1,6 @@
-//! The twin of the program `array_timing` in plain Rust: the same works on plain vectors, with the same lines of
-//! output: the work, what came out, and the least time of the rounds in nanoseconds. Built by `bench/arrays`.
+//! The twin of the program `array_timing` in plain Rust: those of its works that are no function of an array, on
+//! plain vectors, with the same lines of output: the work, a number of what came out, and the least time of the
+//! rounds in nanoseconds. Built by `bench/arrays`.
 
 use std::hint::black_box;
 use std::time::{Duration, Instant};

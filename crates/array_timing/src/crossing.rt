@@ -1,4 +1,5 @@
-//! The witness that an array may cross threads: it is sent to one, and it is read by two at once.
+//! That an array may cross threads: one is sent to another thread, and one is lent to two. That they run at once is
+//! no clause's matter. None of this is timed.
 
 ghost use Rattle.std.specs.Prelude.{◌≡◌, length, IfOk};
 

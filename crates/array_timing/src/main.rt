@@ -1,10 +1,14 @@
-//! Times the calls on arrays. Without a word it does little of each work and prints what came out, the
-//! same at each run. With any word it does a million steps of each, several times, and prints the least
-//! time beside it: a line has the work, what came out, and nanoseconds.
+//! Times the calls on arrays. Without a word it does each work once on a thousand cells and prints a number of
+//! what came out, the same at each run. With any word it does each on a million cells, several times, and prints
+//! the least time beside that number, in nanoseconds.
 //!
-//! Proved: that the program is safe and ends, what it makes and writes, and that an array may go to
-//! another thread and be read by two at once. No clause speaks of time. Its twin in plain Rust is
-//! `bench/array_twin.rs`.
+//! What a work makes while the clock runs is timed with it, and so is letting that go again: the answer, and for
+//! a function of an array the copy of all cells that it is given. So the time of a function is that of the copy and
+//! of the call.
+//!
+//! Proved: that the program is safe and ends, what a row, one write and one append are, and that an array may go
+//! to another thread and be read by two at once. No clause says what a work comes to, and none speaks of time.
+//! `bench/array_twin.rs` does in plain Rust those works that are no function of an array.
 #![tactic(auto)]
 
 mod clock;
@@ -34,7 +38,7 @@ fn show<R: AllocGlobal + Print + Threads + Sync>(rt: &R) -> Result<()> {
     Ok(())
 }
 
-/// Each on a million cells, the best of some rounds.
+/// Each on a million cells, with the least time of 25 rounds.
 fn time<R: AllocGlobal + Print + Clock>(rt: &R) -> Result<()> {
     let mut operands = Operands::new(rt.alloc(), 1_000_000)?;
     for work in WORKS.iter() {

@@ -1,4 +1,4 @@
-//! The arrays that are timed, and the two smallest writes.
+//! Rows of equal numbers, and the two smallest writes.
 //!
 //! Promised: a row has so many cells, each the number; a write changes its place alone, and an append
 //! leaves the cells and puts one behind them. An array that such a write doesn't fit stays as it was.
@@ -24,7 +24,7 @@ pub(crate) fn row(alloc: Global, number: i64, count: u32) -> Result<Arr, NoMemor
     Ok(Arr::new(Class::Int, shape, cells))
 }
 
-/// Writes one number to a place of an int64 array. Any other array stays as it is, and so does each
+/// Writes one number to a place that an int64 array has. Any other array stays as it is, and so does each
 /// without memory.
 pub(crate) fn write_one(
     alloc: Global,

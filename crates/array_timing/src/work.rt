@@ -11,8 +11,8 @@ use pl_setfn::{SetFn, call_set};
 use std::alloc::Global;
 use std::fmt::{self, Display, Formatter};
 
-/// One thing to be timed: an operator on two whole arrays, as many steps as they have cells, or a function
-/// of one whole array.
+/// One thing to be timed: an operator on two whole arrays; as many sums of single numbers, writes or appends as
+/// those have cells; or a function of one whole array.
 #[derive(Clone, Copy, Debug)]
 pub(crate) enum Work {
     Add,
@@ -47,7 +47,7 @@ pub(crate) static WORKS: [Work; 18] = [
     Work::Picks(SetFn::Reshape),
 ];
 
-/// The arrays, made before the clock starts. `count` is the number of cells of each.
+/// The arrays that works are done on, made before the clock starts. `count` is the number of cells of each.
 #[derive(Debug, Drop)]
 pub(crate) struct Operands {
     pub(crate) left: Arr,
@@ -88,7 +88,8 @@ impl Display for Work {
 }
 
 impl Work {
-    /// Does it once, and answers a number that all of the work is needed for.
+    /// Does it once, and answers one number of what came out: mostly a last cell, which doesn't depend on all of
+    /// the work. A function is given a copy of the array, and its time has the copy's in it.
     pub(crate) fn run(&self, alloc: Global, on: &mut Operands) -> Result<i64, Fault> {
         match self {
             Work::Add => whole(alloc, Op2::Add, on),
@@ -122,7 +123,7 @@ fn first(outputs: Vec<Arr>) -> i64 {
     }
 }
 
-/// The numbers from 0 to below the count, each once, far from any order.
+/// For a count that 7919 doesn't divide the numbers from 0 to below it, each once, far from any order.
 fn mixed(alloc: Global, count: u32) -> Result<Arr, Fault>
     requires { count ≤ most }
 {

@@ -1,1 +1,4 @@
 pub mod Passes
+pub mod Choices
+pub mod Runs
+pub mod Judged

@@ -1,5 +1,6 @@
 //! A case: what the program is given, and what is wanted of it.
 
+use crate::malformed::Malformed;
 use pl_base::{Seq, Text, Word};
 
 /// What a sink can hold, and the numbers of its calls that are to fail.
@@ -39,4 +40,13 @@ pub struct Case {
     pub wanted: Wanted,
     /// The same is wanted with each of several counts of workers.
     pub with_all_workers: bool,
+}
+
+/// What came of reading a file of cases.
+#[derive(Debug, Drop)]
+pub enum Contents {
+    Cases(Vec<Case>),
+    /// The first line that is wrong.
+    Malformed(Malformed),
+    Unreadable,
 }

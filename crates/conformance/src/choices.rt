@@ -1,22 +1,38 @@
 //! The choices of a run as lines: for a loop over workers its runs, each the lengths of its pieces joined by `+`; the
 //! iteration that raised; the variable whose writes don't go together.
 
+ghost use Rattle.std.specs.Prelude.{◌≡◌, ◌∷◌, [], ◌++◌, codes, decimal, IfOk, OnOk};
+ghost use Rattle.conformance.specs.Choices.{pieces_text, runs_text, choice_text, choice_lines};
+
 use itoa::Buffer;
 use pl_base::{Bracket, Choice, NoMemory, Text};
 use std::alloc::Global;
 
+/// One piece of a run, behind its sign.
+fn write_piece(line: &mut Vec<u8>, sign: u8, count: u32) -> Result<(), NoMemory>
+    ensures { OnOk result (line.new.items ≡ line.old.items ++ sign ∷ decimal count) }
+{
+    let mut buffer = Buffer::new();
+    line.push(sign)?;
+    line.extend_from_slice(buffer.format(count).as_bytes())?;
+    Ok(())
+}
+
 /// One run of a bracketing.
-fn write_run(line: &mut Vec<u8>, pieces: &[u32]) -> Result<(), NoMemory> {
-    for (place, count) in pieces.iter().enumerate() {
-        let mut buffer = Buffer::new();
-        let before: &[u8] = if place == 0 { b" " } else { b"+" };
-        line.extend_from_slice(before)?;
-        line.extend_from_slice(buffer.format(*count).as_bytes())?;
+fn write_run(line: &mut Vec<u8>, pieces: &[u32]) -> Result<(), NoMemory>
+    ensures { OnOk result (line.new.items ≡ line.old.items ++ pieces_text 32 pieces.now) }
+{
+    let mut sign = b' ';
+    for count in pieces {
+        write_piece(line, sign, *count)?;
+        sign = b'+';
     }
     Ok(())
 }
 
-fn write_runs(line: &mut Vec<u8>, bracket: &Bracket) -> Result<(), NoMemory> {
+fn write_runs(line: &mut Vec<u8>, bracket: &Bracket) -> Result<(), NoMemory>
+    ensures { OnOk result (line.new.items ≡ line.old.items ++ codes "loop" ++ runs_text bracket.now.runs) }
+{
     line.extend_from_slice(b"loop")?;
     for run in bracket.runs.items() {
         write_run(line, run.items())?;
@@ -24,7 +40,9 @@ fn write_runs(line: &mut Vec<u8>, bracket: &Bracket) -> Result<(), NoMemory> {
     Ok(())
 }
 
-fn write_choice(line: &mut Vec<u8>, choice: &Choice) -> Result<(), NoMemory> {
+fn write_choice(line: &mut Vec<u8>, choice: &Choice) -> Result<(), NoMemory>
+    ensures { OnOk result (line.new.items ≡ line.old.items ++ choice_text choice.now) }
+{
     match choice {
         Choice::Runs(bracket) => write_runs(line, bracket)?,
         Choice::Fail(i) => {
@@ -38,15 +56,17 @@ fn write_choice(line: &mut Vec<u8>, choice: &Choice) -> Result<(), NoMemory> {
         }
         _ => line.extend_from_slice(b"another")?,
     }
-    line.extend_from_slice(b"\n")?;
     Ok(())
 }
 
 /// A line for each choice.
-pub fn lines(alloc: Global, choices: &[Choice]) -> Result<Text, NoMemory> {
+pub fn lines(alloc: Global, choices: &[Choice]) -> Result<Text, NoMemory>
+    ensures { IfOk result (λ text. text ≡ choice_lines choices.now) }
+{
     let mut text = Vec::new(alloc);
     for choice in choices {
         write_choice(&mut text, choice)?;
+        text.push(b'\n')?;
     }
     Ok(Text::from_vec(text))
 }

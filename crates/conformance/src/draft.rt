@@ -3,7 +3,7 @@
 use crate::cases::{Case, Given, Limits, Wanted};
 use crate::malformed::Reason;
 use crate::mark::{Mark, Object};
-use pl_base::{Or, Seq, Text, Word};
+use pl_base::{NoMemory, Or, Seq, Text, Word};
 use std::alloc::Global;
 
 /// What a sink can hold where nothing is said of it.
@@ -140,7 +140,7 @@ impl Draft {
             notes_room,
             notes_fails,
             status,
-            mut outs,
+            outs,
             notes,
             choices,
             with_all_workers,
@@ -148,32 +148,44 @@ impl Draft {
         let Some(words) = words else {
             return Err(Or::Is(Reason::NoCommand));
         };
-        if outs.is_empty() {
-            outs.push(Text::from_vec(Vec::new(alloc)))?;
-        }
-        let wanted = Wanted {
-            status: status.unwrap_or(0),
-            outs: Seq::of(outs),
-            notes: notes.unwrap_or(Text::from_vec(Vec::new(alloc))),
-            choices,
-        };
         Ok(Case {
             name,
             line,
             words,
             given,
-            out: Limits {
-                room: out_room.unwrap_or(ROOM),
-                fails: out_fails,
-            },
-            notes: Limits {
-                room: notes_room.unwrap_or(ROOM),
-                fails: notes_fails,
-            },
-            wanted,
+            out: limits(out_room, out_fails),
+            notes: limits(notes_room, notes_fails),
+            wanted: wanted(alloc, status, outs, notes, choices)?,
             with_all_workers,
         })
     }
+}
+
+/// The limits of a sink.
+fn limits(room: Option<u32>, fails: Vec<u64>) -> Limits {
+    Limits {
+        room: room.unwrap_or(ROOM),
+        fails,
+    }
+}
+
+/// What is wanted of a run.
+fn wanted(
+    alloc: Global,
+    status: Option<u8>,
+    mut outs: Vec<Text>,
+    notes: Option<Text>,
+    choices: Option<Text>,
+) -> Result<Wanted, NoMemory> {
+    if outs.is_empty() {
+        outs.push(Text::from_vec(Vec::new(alloc)))?;
+    }
+    Ok(Wanted {
+        status: status.unwrap_or(0),
+        outs: Seq::of(outs),
+        notes: notes.unwrap_or(Text::from_vec(Vec::new(alloc))),
+        choices,
+    })
 }
 
 /// Sets what wasn't set before.

@@ -1,8 +1,11 @@
 //! Runs cases that are written as text: each is a script with its command line, the status, the output and
 //! the notes that are wanted, and what is to fail on the way. Takes the names of its files as arguments.
 //!
-//! A case passes exactly where its run left what is wanted: that is proved (`compare`). How a file of cases
-//! is read, and how failures are printed, is proved to be safe and to end, and no more.
+//! Proved: a case passes only where each run that it asks for left what is wanted, where `top`'s contract says
+//! what a run leaves, and fails only where one left something else; the cases that were read from a file are judged
+//! one by one, in their order, a file that can't be read or is malformed is a failure, and the exit status is 0
+//! exactly where there is a case and none failed. How the text of a file becomes cases, and how failures are
+//! printed, is proved to be safe and to end, and no more.
 #![tactic(auto)]
 
 mod cases;
@@ -17,19 +20,13 @@ mod run;
 mod section;
 
 use anyhow::Result;
-use report::Tally;
 use std::env;
 use std::process::ExitCode;
 
 fn main(rt: HostRuntime) -> Result<ExitCode> {
-    let mut tally = Tally::new();
+    let mut files = Vec::new(rt.alloc());
     for name in env::args(&rt)?.skip(1) {
-        report::run_file(&rt, name.as_str(), &mut tally)?;
+        files.push(name)?;
     }
-    println!(rt; "{} passed, {} failed", tally.passed, tally.failed)?;
-    if tally.is_success() {
-        Ok(ExitCode::SUCCESS)
-    } else {
-        Ok(ExitCode::from(1))
-    }
+    report::run_files(&rt, &files)
 }

@@ -1,6 +1,10 @@
 //! Runs one case, over files and sinks in memory.
 
-use crate::cases::{Case, Limits};
+ghost use Rattle.std.specs.Prelude.{◌≡◌, [], map, ℕ, List, IfOk};
+ghost use Rattle.pl_io.specs.Named.{content};
+ghost use Rattle.conformance.specs.Runs.{command_lines_of, with_workers as added_to, file_of, Leaves};
+
+use crate::cases::{Case, Given, Limits};
 use crate::choices;
 use crate::compare::Seen;
 use pl_base::{Free, NoMemory, Text, Word};
@@ -13,38 +17,58 @@ use std::thread::Threads;
 /// The counts of workers with which a case for all of them is run.
 const WORKERS: [&[u8]; 5] = [b"1", b"2", b"3", b"4", b"16"];
 
+/// The words, and the option with this count of workers.
+fn with_workers(alloc: Global, words: &Vec<Word>, count: &[u8]) -> Result<Vec<Word>, NoMemory>
+    ensures { IfOk result (λ line. line.items ≡ added_to words.now.items count.now) }
+{
+    let mut line = words.clone()?;
+    line.push(Text::of(alloc, b"--workers")?)?;
+    line.push(Text::of(alloc, count)?)?;
+    Ok(line)
+}
+
 /// The command lines of a case: its own, or one for each count of workers.
-pub fn command_lines(alloc: Global, case: &Case) -> Result<Vec<Vec<Word>>, NoMemory> {
+pub fn command_lines(alloc: Global, case: &Case) -> Result<Vec<Vec<Word>>, NoMemory>
+    ensures { IfOk result (λ lines. map (λ line. line.items) lines.items ≡ command_lines_of case.now) }
+{
     let mut lines = Vec::new(alloc);
     if !case.with_all_workers {
         lines.push(case.words.clone()?)?;
         return Ok(lines);
     }
-    for count in WORKERS {
-        let mut words = case.words.clone()?;
-        words.push(Text::of(alloc, b"--workers")?)?;
-        words.push(Text::of(alloc, count)?)?;
-        lines.push(words)?;
+    for count in &WORKERS {
+        lines.push(with_workers(alloc, &case.words, count)?)?;
     }
     Ok(lines)
 }
 
-fn sink(alloc: Global, limits: &Limits) -> Result<MemSink, NoMemory> {
+fn sink(alloc: Global, limits: &Limits) -> Result<MemSink, NoMemory>
+    ensures { IfOk result (λ sink. sink.bytes.items ≡ []) }
+{
     MemSink::new(alloc, limits.room, limits.fails.clone()?)
 }
 
+/// The files of a case.
+fn files(given: &Given) -> Result<MemFiles, NoMemory>
+    ensures { IfOk result (λ files. (name : List ℕ) → content files name ≡ file_of given.now name) }
+{
+    Ok(MemFiles::new(
+        given.names.clone()?,
+        given.bytes.clone()?,
+        given.fails.clone()?,
+    ))
+}
+
+/// Runs the case with these words.
 pub fn run<R: Threads + Wait + Sync>(
     rt: &R,
     alloc: Global,
     case: &Case,
     words: &[Word],
-) -> Result<Seen, NoMemory> {
-    let given = &case.given;
-    let mut files = MemFiles::new(
-        given.names.clone()?,
-        given.bytes.clone()?,
-        given.fails.clone()?,
-    );
+) -> Result<Seen, NoMemory>
+    ensures { IfOk result (λ seen. Leaves case.now words.now seen) }
+{
+    let mut files = files(&case.given)?;
     let mut out = sink(alloc, &case.out)?;
     let mut notes = sink(alloc, &case.notes)?;
     let ended = top(rt, alloc, words, &mut files, &mut out, &mut notes, &Free);

@@ -1,0 +1,50 @@
+-- How cases are judged, and what is counted of it.
+use Rattle.std.specs.Prelude.{◌≡◌, ℕ, ◌+◌, ◌-◌, ◌^◌, ◌<◌, min, Bool, true, false, List, [], ◌∷◌, ◌++◌, length, All, Contains}
+use Rattle.std.specs.List.{AllZip}
+use Rattle.conformance.specs.declared.cases.Case.{Case}
+use Rattle.conformance.specs.declared.cases.Contents.{Contents}
+use Rattle.conformance.specs.declared.cases.Contents.TheVariants.{Cases, Malformed, Unreadable}
+use Rattle.conformance.specs.declared.compare.Seen.{Seen}
+use Rattle.conformance.specs.declared.report.Tally.{Tally}
+use Rattle.conformance.specs.Passes.{Passes}
+use Rattle.conformance.specs.Runs.{command_lines_of, Leaves}
+
+-- a run of the case with this command line left what is wanted, or something else
+abbrev pub IsRunJudged : Case → List (List ℕ) → Bool → Type 0
+IsRunJudged case words true = (seen : Seen) × Leaves case words seen × Passes case.wanted seen
+IsRunJudged case words false = (seen : Seen) × Leaves case words seen × (Passes case.wanted seen → ⊥)
+
+-- a case passes where it does with each of its command lines, and fails where it does with one
+abbrev pub IsJudged : Case → Bool → Type 0
+IsJudged case true = All (λ words. IsRunJudged case words true) (command_lines_of case)
+IsJudged case false = (words : List (List ℕ)) × Contains (command_lines_of case) words × IsRunJudged case words false
+
+-- the judgements of what is in a file: one for each case, in their order; of a text that is malformed, or can't be read, a failure
+abbrev pub AreJudged : Contents → List Bool → Type 0
+AreJudged (Cases cases) judged = AllZip IsJudged cases.items judged
+AreJudged (Malformed malformed) judged = judged ≡ false ∷ []
+AreJudged Unreadable judged = judged ≡ false ∷ []
+
+-- the judgements of a file, whatever is in it
+abbrev pub IsFileJudged : List Bool → Type 0
+IsFileJudged judged = (contents : Contents) × AreJudged contents judged
+
+-- the judgements of all files
+abbrev pub joined : List (List Bool) → List Bool
+joined [] = []
+joined (judged ∷ more) = judged ++ joined more
+
+-- one more, up to 2^64 - 1
+abbrev pub one_more : ℕ → ℕ
+one_more n = min (n + 1) (2 ^ 64 - 1)
+
+-- the counts with those of these judgements
+abbrev pub tallied : Tally → List Bool → Tally
+tallied tally [] = tally
+tallied tally (true ∷ judged) = tallied (record tally { passed = one_more tally.passed }) judged
+tallied tally (false ∷ judged) = tallied (record tally { failed = one_more tally.failed }) judged
+
+-- there is a case, and none failed
+pub record IsSuccess (judged : List Bool) : Type 0 where
+  pub some : 0 < length judged
+  pub none_failed : All (λ passed. passed ≡ true) judged
