@@ -5,12 +5,13 @@ ghost use Rattle.pl_frames.specs.Parts as parts;
 ghost use Rattle.pl_frames.specs.Trees as trees;
 ghost use Rattle.pl_steps.specs.Steps as spec;
 
+use pl_base::NoMemory;
 use pl_frames::{
     Bottom, Callee, Cells, Frame, Goal, Heading, Held, Inner, Lead, Listed, Mark, Operand, Part,
     Pile, Rows, Site, Spot, Stack, State, argument, celled, enter, filled, tree,
 };
 use pl_grammar::Keyword;
-use pl_steps::{Step, ended, laid, refused, refused_both, refused_with, settle};
+use pl_steps::{Step, ended, laid, refused, refused_both, refused_with, settle, wanting};
 use pl_syntax::Expr;
 use std::alloc::Global;
 
@@ -23,7 +24,7 @@ fn end_goal(alloc: Global, show: bool, operand: Operand, goal: Goal, site: Site)
     Ok(State::Start(site))
 }
 
-/// A header up to its expression. In a struct, so that it is let go as a whole where memory is wanting.
+/// A header up to its expression. In a struct, so that it is let go as a whole.
 #[derive(Drop)]
 struct Begun {
     lead: Lead,
@@ -50,8 +51,10 @@ fn headed(alloc: Global, begun: Begun, value: Expr) -> Step
 fn end_lead(alloc: Global, show: bool, operand: Operand, begun: Begun) -> Step
     ensures { spec.Gives result (spec.end_bottom show operand (Bottom.Lead begun.lead begun.spot)) }
 {
-    let value = tree(alloc, operand)?;
-    headed(alloc, begun, value)
+    match tree(alloc, operand) {
+        Ok(value) => headed(alloc, begun, value),
+        Err(NoMemory) => wanting(begun),
+    }
 }
 
 /// A separator behind a statement's or a header's expression.

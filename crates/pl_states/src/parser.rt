@@ -227,16 +227,11 @@ fn at_end(alloc: Global, state: State) -> Result<Option<Program>, NoMemory>
 }
 
 /// The program, or why there is none.
-fn finish_with(inside: bool, program: Option<Program>) -> Result<Program, Or<Refusal>>
-    ensures { spec.Answers result (spec.finish_with inside program) }
+fn finish_with(inside: bool, program: Option<Program>) -> Result<Program, Refusal>
+    ensures { result ≡ spec.finish_with inside program }
 {
-    match program {
-        Some(program) => Ok(program),
-        None => {
-            let kind = missing(inside);
-            Err(Or::Is(Refusal { kind, left: 0 }))
-        }
-    }
+    let kind = missing(inside);
+    program.ok_or(Refusal { kind, left: 0 })
 }
 
 /// Why the terminals may not end.
@@ -256,7 +251,7 @@ fn finish(alloc: Global, state: State) -> Result<Program, Or<Refusal>>
 {
     let inside = is_open(&state);
     let program = at_end(alloc, state)?;
-    finish_with(inside, program)
+    finish_with(inside, program).map_err(Or::Is)
 }
 
 /// The program of terminals, or where and why they are none.

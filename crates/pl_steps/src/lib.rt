@@ -15,5 +15,7 @@ mod settling;
 pub use forms::{has_state, target_name};
 pub use names::{Dots, dots_of, is_state};
 pub use operands::{answered, called, is_end, laid, read_operand};
-pub use refusing::{Step, nothing, nothing_with, refused, refused_both, refused_with, roomy};
+pub use refusing::{
+    Step, nothing, nothing_with, refused, refused_both, refused_with, roomy, wanting,
+};
 pub use settling::{assign, ended, settle};

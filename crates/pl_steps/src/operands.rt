@@ -1,10 +1,11 @@
 //! Where an operand has to come.
 
-ghost use Rattle.std.specs.Prelude.{◌≡◌, Ok, Err, IfOk};
+ghost use Rattle.std.specs.Prelude.{◌≡◌, ◌∷◌, Some, Ok, Err, IfOk};
+ghost use Rattle.pl_frames.specs.Outlist as outlist;
 ghost use Rattle.pl_grammar.specs.Words as words;
 ghost use Rattle.pl_steps.specs.Steps as spec;
 
-use crate::refusing::{Step, refused, refused_with, roomy};
+use crate::refusing::{Step, refused, refused_both, refused_with, roomy, wanting};
 use pl_base::NoMemory;
 use pl_frames::{
     Bottom, Callee, Cells, Form, Frame, Listed, Mark, Op, Operand, Outgoing, Outlist, Pile, Rows,
@@ -198,19 +199,26 @@ fn close_empty(alloc: Global, stack: Stack) -> Step
     }
 }
 
+/// `]` behind elements of a row.
+fn square_cells(alloc: Global, mark: Mark, rows: Rows, cells: Cells, stack: Stack) -> Step
+    ensures { spec.Gives result (spec.square_row mark rows (Some cells) stack) }
+{
+    if cells.space {
+        return refused_both(rows, stack);
+    }
+    match filled(alloc, rows, cells) {
+        Ok(rows) => Ok(State::After(bracketed(mark, rows), stack)),
+        Err(NoMemory) => wanting(stack),
+    }
+}
+
 /// `]` where an element has to come.
 fn square_row(alloc: Global, mark: Mark, rows: Rows, cells: Option<Cells>, stack: Stack) -> Step
     ensures { spec.Gives result (spec.square_row mark rows cells stack) }
 {
     match cells {
         None => Ok(State::After(bracket(mark, rows), stack)),
-        Some(cells) => {
-            if cells.space {
-                return refused(cells);
-            }
-            let rows = filled(alloc, rows, cells)?;
-            Ok(State::After(bracketed(mark, rows), stack))
-        }
+        Some(cells) => square_cells(alloc, mark, rows, cells, stack),
     }
 }
 
@@ -224,6 +232,14 @@ fn outputs_shut(list: Option<Outlist>) -> Step
     }
 }
 
+/// `]` where no row is open: it can only shut outputs.
+fn square_outputs(alloc: Global, frame: Frame, stack: Stack) -> Step
+    ensures { spec.Gives result (spec.shut_outlist (outlist.skipped (frame ∷ stack.frames) stack.bottom)) }
+{
+    let stack = laid(frame, stack)?;
+    outputs_shut(skipped(alloc, stack)?)
+}
+
 /// `]` where an operand has to come.
 #[tactic(auto, unfolding(crate::specs::Steps::square_empty))]
 fn square_empty(alloc: Global, stack: Stack) -> Step
@@ -235,10 +251,7 @@ fn square_empty(alloc: Global, stack: Stack) -> Step
         Some(Frame::Row(mark, rows, cells)) => {
             square_row(alloc, mark, rows, cells, Stack { frames, bottom })
         }
-        Some(frame) => {
-            let stack = laid(frame, Stack { frames, bottom })?;
-            outputs_shut(skipped(alloc, stack)?)
-        }
+        Some(frame) => square_outputs(alloc, frame, Stack { frames, bottom }),
         None => refused(bottom),
     }
 }
@@ -251,19 +264,26 @@ fn next_row(mark: Mark, rows: Rows, stack: Stack) -> Step
     Ok(State::Operand(stack))
 }
 
+/// A row's end behind its elements.
+fn break_cells(alloc: Global, mark: Mark, rows: Rows, cells: Cells, stack: Stack) -> Step
+    ensures { spec.Gives result (spec.break_row mark rows (Some cells) stack) }
+{
+    if cells.space {
+        return refused_both(rows, stack);
+    }
+    match filled(alloc, rows, cells) {
+        Ok(rows) => next_row(mark, rows, stack),
+        Err(NoMemory) => wanting(stack),
+    }
+}
+
 /// A row's end where an element has to come.
 fn break_row(alloc: Global, mark: Mark, rows: Rows, cells: Option<Cells>, stack: Stack) -> Step
     ensures { spec.Gives result (spec.break_row mark rows cells stack) }
 {
     match cells {
         None => next_row(mark, broken(rows), stack),
-        Some(cells) => {
-            if cells.space {
-                return refused(cells);
-            }
-            let rows = filled(alloc, rows, cells)?;
-            next_row(mark, rows, stack)
-        }
+        Some(cells) => break_cells(alloc, mark, rows, cells, stack),
     }
 }
 

@@ -18,7 +18,17 @@ pub fn refused<T: Drop>(held: T) -> Step
     Err(Or::Is(FaultKind::Unexpected))
 }
 
-/// The same; a stack is let go too.
+/// Memory was wanting; what was held is let go.
+///
+/// A `?` lets go of all that its function holds, and the prover shows it of each part of each; this shows it once.
+pub fn wanting<T: Drop>(held: T) -> Step
+    ensures { result ≡ Err Or.Memory }
+{
+    drop(held);
+    Err(Or::Memory)
+}
+
+/// A refusal; a stack is let go too.
 pub fn refused_with<T: Drop>(held: T, stack: Stack) -> Step
     ensures { result ≡ Err (Or.Is FaultKind.Unexpected) }
 {
@@ -26,7 +36,7 @@ pub fn refused_with<T: Drop>(held: T, stack: Stack) -> Step
     refused(held)
 }
 
-/// The same of two things that are let go.
+/// A refusal; two things are let go.
 pub fn refused_both<T: Drop, U: Drop>(held: T, other: U) -> Step
     ensures { result ≡ Err (Or.Is FaultKind.Unexpected) }
 {
