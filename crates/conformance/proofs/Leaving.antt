@@ -1,17 +1,9 @@
 -- Laws of what a run leaves.
 use Rattle.std.proofs.Common.{◌≡◌, ℕ, List, [], ◌∷◌, ◌++◌, map, zero, suc, refl, ap, sym, ◌∙◌, subst}
 use Rattle.std.specs.Prelude.{Option, Some, None, option_map, option_and_then, slice_get, position, nat_eq}
-use Rattle.std.specs.List.{AllZip}
 use Rattle.std.specs.Io.KnownBytes.{Appends}
 use Rattle.std.specs.Cmp.Lexicographic.{pointwise}
 use Rattle.pl_io.specs.Named.{at_name}
-
--- clones that keep what is looked at
-pub clones : {X Y : Type 0} (R : X → X → Type 0) (f : X → Y) (same : (x y : X) → R x y → f y ≡ f x) (xs ys : List X) → AllZip R xs ys → map f ys ≡ map f xs
-clones R f same [] [] zip = refl
-clones R f same [] (y ∷ ys) zip = absurd zip
-clones R f same (x ∷ xs) [] zip = absurd zip
-clones R f same (x ∷ xs) (y ∷ ys) zip = λ i. same x y zip.0 i ∷ clones R f same xs ys zip.1 i
 
 get_map : {X Y : Type 0} (f : X → Y) (xs : List X) (k : ℕ) → option_map f (slice_get xs k) ≡ slice_get (map f xs) k
 get_map f [] k = refl

@@ -1,9 +1,10 @@
 -- How cases are judged, and what is counted of it.
-use Rattle.std.specs.Prelude.{◌≡◌, ℕ, ◌+◌, ◌-◌, ◌^◌, ◌<◌, min, Bool, true, false, List, [], ◌∷◌, ◌++◌, length, All, Contains}
+use Rattle.std.specs.Prelude.{◌≡◌, ℕ, ◌+◌, ◌-◌, ◌^◌, ◌<◌, min, Bool, true, false, Ok, Err, List, [], ◌∷◌, ◌++◌, length, All, Contains}
 use Rattle.std.specs.List.{AllZip}
-use Rattle.conformance.specs.declared.cases.Case.{Case}
-use Rattle.conformance.specs.declared.cases.Contents.{Contents}
-use Rattle.conformance.specs.declared.cases.Contents.TheVariants.{Cases, Malformed, Unreadable}
+use Rattle.pl_cases.specs.declared.cases.Case.{Case}
+use Rattle.pl_cases.specs.Cases.{cases_of}
+use Rattle.conformance.specs.declared.contents.Contents.{Contents}
+use Rattle.conformance.specs.declared.contents.Contents.TheVariants.{Cases, Malformed, Unreadable}
 use Rattle.conformance.specs.declared.compare.Seen.{Seen}
 use Rattle.conformance.specs.declared.report.Tally.{Tally}
 use Rattle.conformance.specs.Passes.{Passes}
@@ -21,13 +22,19 @@ IsJudged case false = (words : List (List ℕ)) × Contains (command_lines_of ca
 
 -- the judgements of what is in a file: one for each case, in their order; of a text that is malformed, or can't be read, a failure
 abbrev pub AreJudged : Contents → List Bool → Type 0
-AreJudged (Cases cases) judged = AllZip IsJudged cases.items judged
+AreJudged (Cases cases) judged = AllZip IsJudged cases judged
 AreJudged (Malformed malformed) judged = judged ≡ false ∷ []
 AreJudged Unreadable judged = judged ≡ false ∷ []
 
--- the judgements of a file, whatever is in it
+-- the cases are those of some text, the fault is that of some text, or there is no text
+abbrev pub IsRead : Contents → Type 0
+IsRead (Cases cases) = (text : List ℕ) × (cases_of text ≡ Ok cases)
+IsRead (Malformed fault) = (text : List ℕ) × (cases_of text ≡ Err fault)
+IsRead Unreadable = Unit {0}
+
+-- the judgements of a file, whatever text is in it
 abbrev pub IsFileJudged : List Bool → Type 0
-IsFileJudged judged = (contents : Contents) × AreJudged contents judged
+IsFileJudged judged = (contents : Contents) × IsRead contents × AreJudged contents judged
 
 -- the judgements of all files
 abbrev pub joined : List (List Bool) → List Bool

@@ -1,6 +1,6 @@
 -- What it is for a case to pass.
 use Rattle.std.specs.Prelude.{◌≡◌, IfSome, Contains}
-use Rattle.conformance.specs.declared.cases.Wanted.{Wanted}
+use Rattle.pl_cases.specs.declared.cases.Wanted.{Wanted}
 use Rattle.conformance.specs.declared.compare.Seen.{Seen}
 
 -- the status and the notes are those that are wanted, and so are the choices, where any are; and the output is one of those

@@ -5,8 +5,8 @@ use Rattle.pl_session.specs.declared.ended.Ended.{Ended}
 use Rattle.pl_session.specs.Ends.{Ends, Raises, PrintsPart, WritesRefusal, journal_of}
 use Rattle.pl_session.specs.Lines as lines
 use Rattle.pl_session.specs.Words.{Command, command_of}
-use Rattle.conformance.specs.declared.cases.Case.{Case}
-use Rattle.conformance.specs.declared.cases.Given.{Given}
+use Rattle.pl_cases.specs.declared.cases.Case.{Case}
+use Rattle.pl_cases.specs.declared.cases.Given.{Given}
 use Rattle.conformance.specs.declared.compare.Seen.{Seen}
 use Rattle.conformance.specs.Choices.{choice_lines}
 
@@ -19,11 +19,11 @@ with_workers words count = words ++ codes "--workers" ∷ count ∷ []
 
 -- the command lines of a case: its own, or one for each count of workers
 abbrev pub command_lines_of : Case → List (List (List ℕ))
-command_lines_of case = if case.with_all_workers then map (with_workers case.words.items) workers else case.words.items ∷ []
+command_lines_of case = if case.with_all_workers then map (with_workers case.words) workers else case.words ∷ []
 
 -- the bytes of the case's file of a name
 abbrev pub file_of : Given → List ℕ → Option (List ℕ)
-file_of given name = at_name given.names.items (map (λ v. v.items) given.bytes.items) name
+file_of given name = at_name given.names given.bytes name
 
 -- a call of `top` with these words, over the case's files and two empty sinks, ended so and left this: what `top` promises of it
 pub record Leaves (case : Case) (words : List (List ℕ)) (seen : Seen) : Type 0 where

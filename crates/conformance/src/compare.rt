@@ -4,8 +4,8 @@ ghost use Rattle.std.specs.Prelude.{◌≡◌, ◌↔◌, IsTrue, IfSome, Contai
 ghost use Rattle.conformance.specs.Passes.{Passes};
 ghost use Rattle.conformance.specs.declared.compare.Verdict.{Verdict};
 
-use crate::cases::Wanted;
 use pl_base::{Seq, Text};
+use pl_cases::Wanted;
 
 /// What a run left.
 #[derive(Debug, Drop)]

@@ -4,20 +4,15 @@
 //! Proved: a case passes only where each run that it asks for left what is wanted, where `top`'s contract says
 //! what a run leaves, and fails only where one left something else; the cases that were read from a file are judged
 //! one by one, in their order, a file that can't be read or is malformed is a failure, and the exit status is 0
-//! exactly where there is a case and none failed. How the text of a file becomes cases, and how failures are
-//! printed, is proved to be safe and to end, and no more.
+//! exactly where there is a case and none failed. The cases are exactly those of some text, as `pl_cases` says them; no
+//! clause can say that it is the file's. How failures are printed is proved to be safe and to end, and no more.
 #![tactic(auto)]
 
-mod cases;
 mod choices;
 mod compare;
-mod draft;
-mod malformed;
-mod mark;
-mod parse;
+mod contents;
 mod report;
 mod run;
-mod section;
 
 use anyhow::Result;
 use std::env;

@@ -3,14 +3,14 @@
 ghost use Rattle.std.specs.Prelude.{◌≡◌, ◌↔◌, ◌<◌, ◌≤◌, ◌∷◌, [], Bool, List, IsTrue, true, false, length, All, IfOk, OnOk};
 ghost use Rattle.std.specs.List.{AllZip};
 ghost use Rattle.std.specs.Process.{exit_status};
-ghost use Rattle.conformance.specs.Judged.{IsRunJudged, IsJudged, AreJudged, IsFileJudged, joined, tallied, IsSuccess};
+ghost use Rattle.conformance.specs.Judged.{IsRunJudged, IsJudged, IsRead, AreJudged, IsFileJudged, joined, tallied, IsSuccess};
 
-use crate::cases::{Case, Contents};
 use crate::compare::{self, Seen, Verdict};
-use crate::parse::parse;
+use crate::contents::Contents;
 use crate::run;
 use anyhow::Result;
 use pl_base::{NoMemory, Or, Word};
+use pl_cases::{Case, parse};
 use std::process::ExitCode;
 use std::rt::Files;
 use std::sync::Wait;
@@ -95,8 +95,10 @@ fn run_file<R: Files + AllocGlobal + Print + Threads + Wait + Sync>(
     run_contents(rt, file, &contents, tally)
 }
 
-/// What is in the file. No clause can say what the system's files have.
-fn read_file<R: Files + AllocGlobal>(rt: &R, file: &str) -> Result<Contents, NoMemory> {
+/// What is in the file: what some text has, or it can't be read. No clause can say which text the system's file is.
+fn read_file<R: Files + AllocGlobal>(rt: &R, file: &str) -> Result<Contents, NoMemory>
+    ensures { IfOk result (λ contents. IsRead contents) }
+{
     let Ok(source) = fs::read(rt, file) else {
         return Ok(Contents::Unreadable);
     };
@@ -117,7 +119,7 @@ fn run_contents<R: AllocGlobal + Print + Threads + Wait + Sync>(
     ensures { OnOk result ((judged : List Bool) × AreJudged contents.now judged × (tally.new ≡ tallied tally.old judged)) }
 {
     match contents {
-        Contents::Cases(cases) => run_cases(rt, file, cases, tally),
+        Contents::Cases(cases) => run_cases(rt, file, cases.items(), tally),
         Contents::Malformed(malformed) => {
             println!(rt; "{file}:{malformed}")?;
             tally.add(false);

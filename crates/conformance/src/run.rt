@@ -4,10 +4,10 @@ ghost use Rattle.std.specs.Prelude.{◌≡◌, [], map, ℕ, List, IfOk};
 ghost use Rattle.pl_io.specs.Named.{content};
 ghost use Rattle.conformance.specs.Runs.{command_lines_of, with_workers as added_to, file_of, Leaves};
 
-use crate::cases::{Case, Given, Limits};
 use crate::choices;
 use crate::compare::Seen;
 use pl_base::{Free, NoMemory, Text, Word};
+use pl_cases::{Case, Given, Limits};
 use pl_io::{MemFiles, MemSink};
 use pl_session::top;
 use std::alloc::Global;
@@ -17,11 +17,32 @@ use std::thread::Threads;
 /// The counts of workers with which a case for all of them is run.
 const WORKERS: [&[u8]; 5] = [b"1", b"2", b"3", b"4", b"16"];
 
-/// The words, and the option with this count of workers.
-fn with_workers(alloc: Global, words: &Vec<Word>, count: &[u8]) -> Result<Vec<Word>, NoMemory>
-    ensures { IfOk result (λ line. line.items ≡ added_to words.now.items count.now) }
+fn copies(alloc: Global, texts: &[Text]) -> Result<Vec<Text>, NoMemory>
+    ensures { IfOk result (λ copies. copies.items ≡ texts.now) }
 {
-    let mut line = words.clone()?;
+    let mut copies = Vec::new(alloc);
+    for text in texts {
+        copies.push(text.copy(alloc)?)?;
+    }
+    Ok(copies)
+}
+
+/// The bytes of each text.
+fn bytes(alloc: Global, texts: &[Text]) -> Result<Vec<Vec<u8>>, NoMemory>
+    ensures { IfOk result (λ all. map (λ v. v.items) all.items ≡ texts.now) }
+{
+    let mut all = Vec::new(alloc);
+    for text in texts {
+        all.push(Vec::from_slice(alloc, text.bytes())?)?;
+    }
+    Ok(all)
+}
+
+/// The words, and the option with this count of workers.
+fn with_workers(alloc: Global, words: &[Word], count: &[u8]) -> Result<Vec<Word>, NoMemory>
+    ensures { IfOk result (λ line. line.items ≡ added_to words.now count.now) }
+{
+    let mut line = copies(alloc, words)?;
     line.push(Text::of(alloc, b"--workers")?)?;
     line.push(Text::of(alloc, count)?)?;
     Ok(line)
@@ -33,11 +54,11 @@ pub fn command_lines(alloc: Global, case: &Case) -> Result<Vec<Vec<Word>>, NoMem
 {
     let mut lines = Vec::new(alloc);
     if !case.with_all_workers {
-        lines.push(case.words.clone()?)?;
+        lines.push(copies(alloc, case.words.items())?)?;
         return Ok(lines);
     }
     for count in &WORKERS {
-        lines.push(with_workers(alloc, &case.words, count)?)?;
+        lines.push(with_workers(alloc, case.words.items(), count)?)?;
     }
     Ok(lines)
 }
@@ -45,17 +66,18 @@ pub fn command_lines(alloc: Global, case: &Case) -> Result<Vec<Vec<Word>>, NoMem
 fn sink(alloc: Global, limits: &Limits) -> Result<MemSink, NoMemory>
     ensures { IfOk result (λ sink. sink.bytes.items ≡ []) }
 {
-    MemSink::new(alloc, limits.room, limits.fails.clone()?)
+    let fails = Vec::from_slice(alloc, limits.fails.items())?;
+    MemSink::new(alloc, limits.room, fails)
 }
 
 /// The files of a case.
-fn files(given: &Given) -> Result<MemFiles, NoMemory>
+fn files(alloc: Global, given: &Given) -> Result<MemFiles, NoMemory>
     ensures { IfOk result (λ files. (name : List ℕ) → content files name ≡ file_of given.now name) }
 {
     Ok(MemFiles::new(
-        given.names.clone()?,
-        given.bytes.clone()?,
-        given.fails.clone()?,
+        copies(alloc, given.names.items())?,
+        bytes(alloc, given.bytes.items())?,
+        Vec::from_slice(alloc, given.fails.items())?,
     ))
 }
 
@@ -68,7 +90,7 @@ pub fn run<R: Threads + Wait + Sync>(
 ) -> Result<Seen, NoMemory>
     ensures { IfOk result (λ seen. Leaves case.now words.now seen) }
 {
-    let mut files = files(&case.given)?;
+    let mut files = files(alloc, &case.given)?;
     let mut out = sink(alloc, &case.out)?;
     let mut notes = sink(alloc, &case.notes)?;
     let ended = top(rt, alloc, words, &mut files, &mut out, &mut notes, &Free);

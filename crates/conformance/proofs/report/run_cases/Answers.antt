@@ -1,7 +1,7 @@
 use Rattle.std.proofs.Common.{◌≡◌, ◌+◌, ◌<◌, List, [], ◌∷◌, ◌++◌, take, length, ap, sym, ◌∙◌, subst, arith}
 use Rattle.std.specs.List.{AllZip}
 use Rattle.std.proofs.lemmas.List.{take_more}
-use Rattle.conformance.specs.declared.cases.Case.{Case}
+use Rattle.pl_cases.specs.declared.cases.Case.{Case}
 use Rattle.conformance.specs.declared.report.Tally.{Tally}
 use Rattle.conformance.specs.Judged.{IsJudged, tallied}
 use Rattle.conformance.proofs.Counting.{zip_push, tallied_append}

@@ -1,5 +1,5 @@
 use Rattle.std.proofs.Common.{false, [], ◌∷◌, refl, sym, subst}
-use Rattle.conformance.specs.declared.cases.Contents.{Contents}
+use Rattle.conformance.specs.declared.contents.Contents.{Contents}
 use Rattle.conformance.specs.Judged.{AreJudged}
 use Rattle.conformance.proofs.report.run_contents.Goals as goal
 

@@ -5,4 +5,4 @@ use Rattle.conformance.proofs.run.command_lines.Given as goal
 
 abbrev pub invariant-loop-count : goal.invariant-loop-count
 invariant-loop-count l =
-    map (with_workers l.case.words.items) workers ≡ map (λ line. line.items) l.lines.items ++ map (λ count. with_workers l.case.words.items count.now) (drop l.count-index l.count-items)
+    map (with_workers l.case.words) workers ≡ map (λ line. line.items) l.lines.items ++ map (λ count. with_workers l.case.words count.now) (drop l.count-index l.count-items)

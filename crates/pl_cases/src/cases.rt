@@ -1,21 +1,20 @@
 //! A case: what the program is given, and what is wanted of it.
 
-use crate::malformed::Malformed;
 use pl_base::{Seq, Text, Word};
 
 /// What a sink can hold, and the numbers of its calls that are to fail.
 #[derive(Debug, Drop)]
 pub struct Limits {
     pub room: u32,
-    pub fails: Vec<u64>,
+    pub fails: Seq<u64>,
 }
 
 /// Files in memory, as two lists side by side, and the numbers of the reads that are to fail.
 #[derive(Debug, Drop)]
 pub struct Given {
-    pub names: Vec<Word>,
-    pub bytes: Vec<Vec<u8>>,
-    pub fails: Vec<u64>,
+    pub names: Seq<Word>,
+    pub bytes: Seq<Text>,
+    pub fails: Seq<u64>,
 }
 
 /// What a run is to leave. The output is one of those that are allowed.
@@ -33,20 +32,11 @@ pub struct Case {
     pub name: Text,
     /// The line on which the case begins.
     pub line: u64,
-    pub words: Vec<Word>,
+    pub words: Seq<Word>,
     pub given: Given,
     pub out: Limits,
     pub notes: Limits,
     pub wanted: Wanted,
     /// The same is wanted with each of several counts of workers.
     pub with_all_workers: bool,
-}
-
-/// What came of reading a file of cases.
-#[derive(Debug, Drop)]
-pub enum Contents {
-    Cases(Vec<Case>),
-    /// The first line that is wrong.
-    Malformed(Malformed),
-    Unreadable,
 }

@@ -1,5 +1,8 @@
 //! Why a file of cases can't be read, and where.
 
+ghost use Rattle.std.specs.Prelude.{◌≡◌};
+ghost use Rattle.pl_cases.specs.Answers.{Gives, placed};
+
 use pl_base::Or;
 use thiserror::Error;
 
@@ -37,10 +40,23 @@ pub struct Malformed {
     pub reason: Reason,
 }
 
-/// The same fault, with the line where it stands.
-pub fn at(line: u64, fault: Or<Reason>) -> Or<Malformed> {
-    match fault {
-        Or::Memory => Or::Memory,
-        Or::Is(reason) => Or::Is(Malformed { line, reason }),
+/// The same answer, where a fault has the line on which it stands.
+pub fn at<T>(line: u64, found: Result<T, Or<Reason>>) -> Result<T, Or<Malformed>>
+    ensures { result ≡ placed line found }
+{
+    match found {
+        Ok(value) => Ok(value),
+        Err(Or::Memory) => Err(Or::Memory),
+        Err(Or::Is(reason)) => Err(Or::Is(Malformed { line, reason })),
+    }
+}
+
+/// The same answer, of a call that wants no memory.
+pub fn refusing<T>(found: Result<T, Reason>) -> Result<T, Or<Reason>>
+    ensures { Gives result found }
+{
+    match found {
+        Ok(value) => Ok(value),
+        Err(reason) => Err(Or::Is(reason)),
     }
 }

@@ -1,0 +1,5 @@
+pub mod Ends
+pub mod Fronts
+pub mod Numbers
+pub mod Pieces
+pub mod Placed

@@ -1,0 +1,154 @@
+//! Words and numbers in a line.
+
+ghost use Rattle.std.specs.Prelude.{◌≡◌, ◌≤◌, ◌<◌, ◌^◌, ◌==◌, map, SomeIff, IfOk};
+ghost use Rattle.std.specs.List.{slice_split, list_all, list_any};
+ghost use Rattle.pl_cases.specs.Words as spec;
+
+use crate::malformed::Reason;
+use pl_base::{NoMemory, Seq, Text, Word};
+use std::alloc::Global;
+
+/// How the word without bytes is written.
+const NO_BYTES: &[u8] = b"''";
+
+/// Whether the bytes are the same.
+pub fn same(a: &[u8], b: &[u8]) -> bool
+    ensures { result ≡ spec.same a.now b.now }
+{
+    a == b
+}
+
+/// Whether the name is one of these.
+pub fn is_one_of(name: &[u8], names: &[Text]) -> bool
+    ensures { result ≡ list_any (spec.same name.now) names.now }
+{
+    for other in names {
+        if same(name, other.bytes()) {
+            return true;
+        }
+    }
+    false
+}
+
+/// What stands before, between and behind the bytes that separate.
+pub fn pieces(alloc: Global, separator: u8, bytes: &[u8]) -> Result<Vec<Text>, NoMemory>
+    ensures { IfOk result (λ pieces. pieces.items ≡ slice_split (λ b. b == separator) bytes.now) }
+{
+    let mut pieces = Vec::new(alloc);
+    let mut piece = Vec::new(alloc);
+    for byte in bytes {
+        if *byte == separator {
+            pieces.push(Text::from_vec(piece))?;
+            piece = Vec::new(alloc);
+        } else {
+            piece.push(*byte)?;
+        }
+    }
+    pieces.push(Text::from_vec(piece))?;
+    Ok(pieces)
+}
+
+/// The words of a line, between blanks.
+pub fn words(alloc: Global, line: &[u8]) -> Result<Seq<Word>, NoMemory>
+    ensures { IfOk result (λ words. words ≡ spec.words_of line.now) }
+{
+    let pieces = pieces(alloc, b' ', line)?;
+    let mut words = Seq::empty(alloc);
+    for piece in pieces.as_slice() {
+        if !piece.bytes().is_empty() {
+            words.push(piece.copy(alloc)?)?;
+        }
+    }
+    Ok(words)
+}
+
+/// The word that is written so on a command line.
+fn word(alloc: Global, written: &[u8]) -> Result<Word, NoMemory>
+    ensures { IfOk result (λ word. word ≡ spec.word_of written.now) }
+{
+    if same(NO_BYTES, written) {
+        Text::of(alloc, b"")
+    } else {
+        Text::of(alloc, written)
+    }
+}
+
+/// The words of a command line.
+pub fn command(alloc: Global, line: &[u8]) -> Result<Seq<Word>, NoMemory>
+    ensures { IfOk result (λ words. words ≡ spec.command_of line.now) }
+{
+    let written = words(alloc, line)?;
+    let mut command = Seq::empty(alloc);
+    for piece in written.items() {
+        command.push(word(alloc, piece.bytes())?)?;
+    }
+    Ok(command)
+}
+
+pub fn copies(alloc: Global, texts: &[Text]) -> Result<Seq<Text>, NoMemory>
+    ensures { IfOk result (λ copies. copies ≡ texts.now) }
+{
+    let mut copies = Seq::empty(alloc);
+    for text in texts {
+        copies.push(text.copy(alloc)?)?;
+    }
+    Ok(copies)
+}
+
+/// The line without the white space at its ends.
+pub fn trimmed(line: &[u8]) -> &[u8]
+    ensures { result.now ≡ spec.trimmed line.now }
+{
+    line.trim_ascii()
+}
+
+fn is_digit(byte: u8) -> bool
+    ensures { result ≡ spec.is_digit byte }
+{
+    byte >= b'0' && byte <= b'9'
+}
+
+fn are_digits(word: &[u8]) -> bool
+    ensures { result ≡ list_all spec.is_digit word.now }
+{
+    for byte in word {
+        if !is_digit(*byte) {
+            return false;
+        }
+    }
+    true
+}
+
+/// The number with this digit behind it.
+fn digit_onto(number: u64, byte: u8) -> Option<u64>
+    ensures { SomeIff result (spec.digit_onto number byte < 2 ^ 64) (spec.digit_onto number byte) }
+{
+    let digit = u64::from(byte.saturating_sub(b'0'));
+    number.checked_mul(10)?.checked_add(digit)
+}
+
+/// The number of these digits, where it has 64 bits at most.
+#[tactic(auto, using(crate::proofs::Numbers::grows))]
+fn digits(word: &[u8]) -> Option<u64>
+    ensures { SomeIff result (spec.number_onto 0 word.now < 2 ^ 64) (spec.number_onto 0 word.now) }
+{
+    let mut number = 0;
+    for byte in word {
+        number = digit_onto(number, *byte)?;
+    }
+    Some(number)
+}
+
+/// A number of at most this size, in decimal.
+pub fn number(word: &[u8], most: u64) -> Result<u64, Reason>
+    ensures value { result ≡ spec.number_of most word.now }
+    ensures within { IfOk result (λ n. n ≤ most) }
+{
+    if word.is_empty() || !are_digits(word) {
+        return Err(Reason::BadNumber);
+    }
+    match digits(word) {
+        Some(number) if number <= most => Ok(number),
+        _ => Err(Reason::BadNumber),
+    }
+}
