@@ -1,6 +1,7 @@
 -- How cases are judged, and what is counted of it.
-use Rattle.std.specs.Prelude.{◌≡◌, ℕ, ◌+◌, ◌-◌, ◌^◌, ◌<◌, min, Bool, true, false, Ok, Err, List, [], ◌∷◌, ◌++◌, length, All, Contains}
+use Rattle.std.specs.Prelude.{◌≡◌, ◌<◌, Bool, true, false, Ok, Err, List, [], ◌∷◌, ◌++◌, length, All, Contains}
 use Rattle.std.specs.List.{AllZip}
+use Rattle.pl_io.specs.Counted.{counted}
 use Rattle.pl_cases.specs.declared.cases.Case.{Case}
 use Rattle.pl_cases.specs.Cases.{cases_of}
 use Rattle.conformance.specs.declared.contents.Contents.{Contents}
@@ -41,15 +42,11 @@ abbrev pub joined : List (List Bool) → List Bool
 joined [] = []
 joined (judged ∷ more) = judged ++ joined more
 
--- one more, up to 2^64 - 1
-abbrev pub one_more : ℕ → ℕ
-one_more n = min (n + 1) (2 ^ 64 - 1)
-
 -- the counts with those of these judgements
 abbrev pub tallied : Tally → List Bool → Tally
 tallied tally [] = tally
-tallied tally (true ∷ judged) = tallied (record tally { passed = one_more tally.passed }) judged
-tallied tally (false ∷ judged) = tallied (record tally { failed = one_more tally.failed }) judged
+tallied tally (true ∷ judged) = tallied (record tally { passed = counted tally.passed }) judged
+tallied tally (false ∷ judged) = tallied (record tally { failed = counted tally.failed }) judged
 
 -- there is a case, and none failed
 pub record IsSuccess (judged : List Bool) : Type 0 where

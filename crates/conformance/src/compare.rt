@@ -1,7 +1,7 @@
 //! What a run left, held against what was wanted of it.
 
 ghost use Rattle.std.specs.Prelude.{◌≡◌, ◌↔◌, IsTrue, IfSome, Contains};
-ghost use Rattle.conformance.specs.Passes.{Passes};
+ghost use Rattle.conformance.specs.Passes.{Passes, Tells};
 ghost use Rattle.conformance.specs.declared.compare.Verdict.{Verdict};
 
 use pl_base::{Seq, Text};
@@ -37,7 +37,8 @@ pub enum Verdict {
 }
 
 pub fn judge(wanted: &Wanted, seen: &Seen) -> Verdict
-    ensures { (result ≡ Verdict.Passed) ↔ Passes wanted.now seen.now }
+    ensures passed { (result ≡ Verdict.Passed) ↔ Passes wanted.now seen.now }
+    ensures first { Tells wanted.now seen.now result }
 {
     if seen.status != wanted.status {
         return Verdict::WrongStatus;

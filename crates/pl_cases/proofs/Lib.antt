@@ -1,5 +1,4 @@
 pub mod Ends
 pub mod Fronts
-pub mod Numbers
 pub mod Pieces
 pub mod Placed

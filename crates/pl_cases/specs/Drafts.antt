@@ -15,7 +15,7 @@ use Rattle.pl_cases.specs.declared.line.Head.{Head}
 use Rattle.pl_cases.specs.declared.line.Head.TheVariants as head
 use Rattle.pl_cases.specs.declared.draft.Draft.{Draft}
 use Rattle.pl_cases.specs.Answers.{◌>>=◌}
-use Rattle.pl_cases.specs.Words.{same}
+use Rattle.pl_words.specs.Words.{same}
 
 -- a case has a name; nothing is said of it yet
 abbrev pub begun_case : List ℕ → ℕ → Result Draft Malformed

@@ -7,7 +7,8 @@ use Rattle.pl_cases.specs.declared.mark.Object.TheVariants as object
 use Rattle.pl_cases.specs.declared.mark.Mark.{Mark}
 use Rattle.pl_cases.specs.declared.mark.Mark.TheVariants as mark
 use Rattle.pl_cases.specs.Answers.{◌>>=◌}
-use Rattle.pl_cases.specs.Words.{same, number_of}
+use Rattle.pl_words.specs.Words.{same}
+use Rattle.pl_cases.specs.Words.{number_of}
 
 abbrev pub of_one : List ℕ → Result Mark Reason
 of_one word =

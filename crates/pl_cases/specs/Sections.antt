@@ -4,7 +4,8 @@ use Rattle.pl_cases.specs.declared.malformed.Malformed.{Malformed}
 use Rattle.pl_cases.specs.declared.line.Head.{Head}
 use Rattle.pl_cases.specs.declared.section.Section.{Section}
 use Rattle.pl_cases.specs.Answers.{◌>>=◌, at}
-use Rattle.pl_cases.specs.Words.{same, begins}
+use Rattle.pl_words.specs.Words.{same}
+use Rattle.pl_cases.specs.Words.{begins}
 use Rattle.pl_cases.specs.Lines.{begun, takes_text}
 
 -- the lines, each with its end, a LF

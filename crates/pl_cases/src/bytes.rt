@@ -1,26 +1,21 @@
 //! Words and numbers in a line.
 
-ghost use Rattle.std.specs.Prelude.{◌≡◌, ◌≤◌, ◌<◌, ◌^◌, ◌==◌, map, SomeIff, IfOk};
-ghost use Rattle.std.specs.List.{slice_split, list_all, list_any};
+ghost use Rattle.std.specs.Prelude.{◌≡◌, ◌≤◌, ◌==◌, IfOk};
+ghost use Rattle.std.specs.List.{slice_split, list_any};
 ghost use Rattle.pl_cases.specs.Words as spec;
+ghost use Rattle.pl_words.specs.Words.{same};
 
 use crate::malformed::Reason;
 use pl_base::{NoMemory, Seq, Text, Word};
+use pl_words::{number_within, same};
 use std::alloc::Global;
 
 /// How the word without bytes is written.
 const NO_BYTES: &[u8] = b"''";
 
-/// Whether the bytes are the same.
-pub fn same(a: &[u8], b: &[u8]) -> bool
-    ensures { result ≡ spec.same a.now b.now }
-{
-    a == b
-}
-
 /// Whether the name is one of these.
 pub fn is_one_of(name: &[u8], names: &[Text]) -> bool
-    ensures { result ≡ list_any (spec.same name.now) names.now }
+    ensures { result ≡ list_any (same name.now) names.now }
 {
     for other in names {
         if same(name, other.bytes()) {
@@ -102,53 +97,10 @@ pub fn trimmed(line: &[u8]) -> &[u8]
     line.trim_ascii()
 }
 
-fn is_digit(byte: u8) -> bool
-    ensures { result ≡ spec.is_digit byte }
-{
-    byte >= b'0' && byte <= b'9'
-}
-
-fn are_digits(word: &[u8]) -> bool
-    ensures { result ≡ list_all spec.is_digit word.now }
-{
-    for byte in word {
-        if !is_digit(*byte) {
-            return false;
-        }
-    }
-    true
-}
-
-/// The number with this digit behind it.
-fn digit_onto(number: u64, byte: u8) -> Option<u64>
-    ensures { SomeIff result (spec.digit_onto number byte < 2 ^ 64) (spec.digit_onto number byte) }
-{
-    let digit = u64::from(byte.saturating_sub(b'0'));
-    number.checked_mul(10)?.checked_add(digit)
-}
-
-/// The number of these digits, where it has 64 bits at most.
-#[tactic(auto, using(crate::proofs::Numbers::grows))]
-fn digits(word: &[u8]) -> Option<u64>
-    ensures { SomeIff result (spec.number_onto 0 word.now < 2 ^ 64) (spec.number_onto 0 word.now) }
-{
-    let mut number = 0;
-    for byte in word {
-        number = digit_onto(number, *byte)?;
-    }
-    Some(number)
-}
-
 /// A number of at most this size, in decimal.
 pub fn number(word: &[u8], most: u64) -> Result<u64, Reason>
     ensures value { result ≡ spec.number_of most word.now }
     ensures within { IfOk result (λ n. n ≤ most) }
 {
-    if word.is_empty() || !are_digits(word) {
-        return Err(Reason::BadNumber);
-    }
-    match digits(word) {
-        Some(number) if number <= most => Ok(number),
-        _ => Err(Reason::BadNumber),
-    }
+    number_within(most, word).ok_or(Reason::BadNumber)
 }

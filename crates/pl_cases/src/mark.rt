@@ -4,9 +4,10 @@ ghost use Rattle.std.specs.Prelude.{◌≡◌};
 ghost use Rattle.pl_cases.specs.Answers.{Gives};
 ghost use Rattle.pl_cases.specs.Marks as spec;
 
-use crate::bytes::{number, same};
+use crate::bytes::number;
 use crate::malformed::{Reason, refusing};
 use pl_base::{Or, Text, Word};
+use pl_words::same;
 use std::alloc::Global;
 
 /// The objects of the outside whose calls can be made to fail.

@@ -1,7 +1,6 @@
 -- The words of the command line.
-use Rattle.std.specs.Prelude.{ℕ, ◌+◌, ◌-◌, ◌*◌, min, nat_le, Bool, false, not, ◌&&◌, ◌==◌, if◌then◌else◌, Option, Some, None, option_map, option_and_then, unwrap_or, List, [], ◌∷◌, length, nat_eq, codes}
-use Rattle.std.specs.List.{list_all}
-use Rattle.std.specs.Cmp.Lexicographic.{pointwise}
+use Rattle.std.specs.Prelude.{ℕ, nat_le, Bool, false, not, ◌&&◌, ◌==◌, if◌then◌else◌, Option, Some, None, option_map, option_and_then, unwrap_or, List, [], ◌∷◌, length, codes}
+use Rattle.pl_words.specs.Words.{same, number_within}
 use Rattle.pl_session.specs.declared.words.Options.{Options}
 
 -- a file's name isn't empty and doesn't begin with `-`
@@ -9,29 +8,12 @@ abbrev pub is_name : List ℕ → Bool
 is_name [] = false
 is_name (c ∷ cs) = not (c == 45)
 
-abbrev pub is_digit : ℕ → Bool
-is_digit c = nat_le 48 c && nat_le c 57
+abbrev pub at_least : ℕ → ℕ → Option ℕ
+at_least least n = if nat_le least n then Some n else None
 
--- the number of which the digits so far are n, when these digits follow; it stops at 10,000,000,000, past all ranges
-abbrev pub digit_onto : ℕ → ℕ → ℕ
-digit_onto n c = min (n * 10 + (c - 48)) 10000000000
-
-abbrev pub number_onto : ℕ → List ℕ → ℕ
-number_onto n [] = n
-number_onto n (c ∷ cs) = number_onto (digit_onto n c) cs
-
--- a number in a range, of one to ten digits
-abbrev pub in_range : ℕ → ℕ → ℕ → Option ℕ
-in_range least most n = if nat_le least n && nat_le n most then Some n else None
-
-abbrev pub is_number : List ℕ → Bool
-is_number word = nat_le 1 (length word) && (nat_le (length word) 10 && list_all is_digit word)
-
+-- a number in a range, of at most ten digits
 abbrev pub number_of : ℕ → ℕ → List ℕ → Option ℕ
-number_of least most word = if is_number word then in_range least most (number_onto 0 word) else None
-
-abbrev pub same : List ℕ → List ℕ → Bool
-same a b = pointwise nat_eq a b
+number_of least most word = if nat_le (length word) 10 then option_and_then (at_least least) (number_within most word) else None
 
 -- an option stands once at most
 abbrev pub with_workers : Options → Option ℕ → List ℕ → Option Options

@@ -1,15 +1,18 @@
 //! What the words of the command line ask for.
 
-ghost use Rattle.std.specs.Prelude.{◌≡◌, ◌≤◌, ◌<◌, ◌^◌, length, Some, None, IfSome, MatchOption};
-ghost use Rattle.std.specs.List.{list_all};
+ghost use Rattle.std.specs.Prelude.{◌≡◌, ◌≤◌, Some, None, IfSome, MatchOption};
 ghost use Rattle.pl_session.specs.Words as spec;
 
 use pl_base::Word;
+use pl_words::{number_within, same};
 
 /// The most workers, and the most turns of an activity.
 const MOST_WORKERS: u64 = 64;
 
 const MOST_TURNS: u64 = 1_000_000_000;
+
+/// The most digits of a number: what `MOST_TURNS` has.
+const MOST_DIGITS: usize = 10;
 
 /// The options behind a file's name, each of which may be given or not.
 #[derive(Clone, Copy, Debug)]
@@ -36,66 +39,16 @@ fn is_name(word: &[u8]) -> bool
     }
 }
 
-fn is_digit(byte: u8) -> bool
-    ensures { result ≡ spec.is_digit byte }
-{
-    byte >= b'0' && byte <= b'9'
-}
-
-/// Whether all of these are digits.
-fn are_digits(word: &[u8]) -> bool
-    ensures { result ≡ list_all spec.is_digit word.now }
-{
-    for byte in word {
-        if !is_digit(*byte) {
-            return false;
-        }
-    }
-    true
-}
-
-fn is_number(word: &[u8]) -> bool
-    ensures { result ≡ spec.is_number word.now }
-{
-    !word.is_empty() && word.len() <= 10 && are_digits(word)
-}
-
-/// A number, and a digit behind it.
-fn digit_onto(number: u64, byte: u8) -> u64
-    ensures { result ≡ spec.digit_onto number byte }
-{
-    let digit = u64::from(byte.saturating_sub(b'0'));
-    number
-        .saturating_mul(10)
-        .saturating_add(digit)
-        .min(10_000_000_000)
-}
-
-/// The number of digits.
-fn number(word: &[u8]) -> u64
-    ensures { result ≡ spec.number_onto 0 word.now }
-{
-    let mut number = 0;
-    for byte in word {
-        number = digit_onto(number, *byte);
-    }
-    number
-}
-
 /// The number of a word, where it is one in a range.
 fn number_of(least: u64, most: u64, word: &[u8]) -> Option<u64>
     ensures value { result ≡ spec.number_of least most word.now }
     ensures within { IfSome result (λ n. n ≤ most) }
 {
-    if !is_number(word) {
+    if word.len() > MOST_DIGITS {
         return None;
     }
-    let number = number(word);
-    if least <= number && number <= most {
-        Some(number)
-    } else {
-        None
-    }
+    let number = number_within(most, word)?;
+    if least <= number { Some(number) } else { None }
 }
 
 fn with_workers(options: Options, word: &[u8]) -> Option<Options>
@@ -120,12 +73,6 @@ fn with_turns(options: Options, word: &[u8]) -> Option<Options>
             Some(Options { turns, ..options })
         }
     }
-}
-
-fn same(a: &[u8], b: &[u8]) -> bool
-    ensures { result ≡ spec.same a.now b.now }
-{
-    a == b
 }
 
 /// An option more, by its word and the word behind it.

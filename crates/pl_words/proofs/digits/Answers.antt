@@ -1,8 +1,8 @@
 use Rattle.std.proofs.Common.{◌≡◌, [], drop, ap, sym, ◌∙◌, arith}
 use Rattle.std.proofs.lemmas.List.{drop_all}
-use Rattle.pl_cases.specs.Words as spec
-use Rattle.pl_cases.proofs.Numbers.{too_many}
-use Rattle.pl_cases.proofs.bytes.digits.Goals as goal
+use Rattle.pl_words.specs.Words as spec
+use Rattle.pl_words.proofs.Numbers.{too_many}
+use Rattle.pl_words.proofs.digits.Goals as goal
 
 -- a digit was too many
 pub returns-in_err-number : goal.returns-in_err-number

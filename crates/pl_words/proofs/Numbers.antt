@@ -1,7 +1,7 @@
 -- A number with more digits is no smaller.
 use Rattle.std.proofs.Common.{◌≡◌, ℕ, suc, ◌≤◌, ◌<◌, ◌^◌, List, [], ◌∷◌, length, drop, get_or, ap, sym, ◌∙◌, arith}
 use Rattle.std.proofs.Math.Seq.{drop-cons}
-use Rattle.pl_cases.specs.Words.{digit_onto, number_onto}
+use Rattle.pl_words.specs.Words.{digit_onto, number_onto}
 
 pub grows : (n : ℕ) (cs : List ℕ) → n ≤ number_onto n cs
 grows n [] = omega arith

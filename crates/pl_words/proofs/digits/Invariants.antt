@@ -1,7 +1,7 @@
 -- The digits to come are put behind the number so far.
 use Rattle.std.proofs.Common.{◌≡◌, ◌<◌, ◌^◌, drop}
-use Rattle.pl_cases.specs.Words as spec
-use Rattle.pl_cases.proofs.bytes.digits.Given as goal
+use Rattle.pl_words.specs.Words as spec
+use Rattle.pl_words.proofs.digits.Given as goal
 
 abbrev pub invariant-loop-byte : goal.invariant-loop-byte
 invariant-loop-byte l =

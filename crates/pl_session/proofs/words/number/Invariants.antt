@@ -1,7 +1,0 @@
--- The digits to come are put behind the number so far.
-use Rattle.std.proofs.Common.{◌≡◌, drop}
-use Rattle.pl_session.specs.Words as spec
-use Rattle.pl_session.proofs.words.number.Given as goal
-
-abbrev pub invariant-loop-byte : goal.invariant-loop-byte
-invariant-loop-byte l = spec.number_onto l.number (drop l.byte-index l.word) ≡ spec.number_onto 0 l.word
