@@ -1,7 +1,7 @@
 //! The choices of a run as lines: for a loop over workers its runs, each the lengths of its pieces joined by `+`; the
 //! iteration that raised; the variable whose writes don't go together.
 
-ghost use Rattle.std.specs.Prelude.{◌≡◌, ◌∷◌, [], ◌++◌, codes, decimal, IfOk, OnOk};
+ghost use Rattle.std.specs.Prelude.{◌≡◌, ◌∷◌, ◌++◌, codes, decimal, IfOk, OnOk};
 ghost use Rattle.conformance.specs.Choices.{pieces_text, runs_text, choice_text, choice_lines};
 
 use itoa::Buffer;

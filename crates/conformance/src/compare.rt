@@ -17,15 +17,6 @@ pub struct Seen {
     pub choices: Text,
 }
 
-/// Where two texts differ first: a line of each, counted from 1, with its end. A text that has no such
-/// line has ended.
-#[derive(Clone, Copy, Debug)]
-pub struct Difference<'a> {
-    pub line: u64,
-    pub wanted: Option<&'a [u8]>,
-    pub got: Option<&'a [u8]>,
-}
-
 /// How a run compares with what was wanted: the first of status, output, notes and choices that is wrong.
 #[derive(Clone, Copy, Debug)]
 pub enum Verdict {
@@ -69,27 +60,5 @@ fn is_wanted(wanted: &Option<Text>, text: &Text) -> bool
     match wanted {
         Some(wanted) => wanted == text,
         None => true,
-    }
-}
-
-/// The first line in which the texts differ. Texts that are equal differ where both have ended.
-pub fn first_difference<'a>(wanted: &'a [u8], got: &'a [u8]) -> Difference<'a> {
-    let mut wanted_lines = wanted.split_inclusive(|b| *b == b'\n');
-    let mut got_lines = got.split_inclusive(|b| *b == b'\n');
-    for line in 1..u64::MAX {
-        let wanted_line = wanted_lines.next();
-        let got_line = got_lines.next();
-        if wanted_line.is_none() || wanted_line != got_line {
-            return Difference {
-                line,
-                wanted: wanted_line,
-                got: got_line,
-            };
-        }
-    }
-    Difference {
-        line: u64::MAX,
-        wanted: None,
-        got: None,
     }
 }

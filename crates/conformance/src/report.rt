@@ -232,7 +232,7 @@ fn print_difference(rt: &impl Print, name: &str, wanted: &[u8], got: &[u8]) -> i
     if wanted == got {
         return Ok(());
     }
-    let difference = compare::first_difference(wanted, got);
+    let difference = difference::first_difference(wanted, got);
     print!(rt; "  {name}, line {}: wanted ", difference.line)?;
     print_line(rt, difference.wanted)?;
     print!(rt; ", got ")?;
