@@ -73,10 +73,11 @@ apart wanted got more_wanted more_got before xs ys line begins_wanted begins_got
     let all_got : lines_of got ≡ before ++ ys = begins_got ∙ ap (λ (ls : List (List ℕ)). before ++ ls) is_ys in
     let all : alike wanted got ≡ length before + common_prefix_len same xs ys =
     ap (λ (ls : List (List ℕ)). common_prefix_len same ls (lines_of got)) all_wanted ∙ ap (common_prefix_len same (before ++ xs)) all_got ∙ alike_behind before xs ys in
-    let here : alike wanted got ≡ length before = omega arith in
-    (counts ∙ ap counted (sym here)
-    , ap (slice_get (lines_of wanted)) here ∙ ap (λ (ls : List (List ℕ)). slice_get ls (length before)) all_wanted ∙ at_seam before xs
-    , ap (slice_get (lines_of got)) here ∙ ap (λ (ls : List (List ℕ)). slice_get ls (length before)) all_got ∙ at_seam before ys)
+    let here : alike wanted got ≡ length before = omega arith in (
+      counts ∙ ap counted (sym here),
+      ap (slice_get (lines_of wanted)) here ∙ ap (λ (ls : List (List ℕ)). slice_get ls (length before)) all_wanted ∙ at_seam before xs,
+      ap (slice_get (lines_of got)) here ∙ ap (λ (ls : List (List ℕ)). slice_get ls (length before)) all_got ∙ at_seam before ys,
+    )
 
 -- a line more of both, which is the same
 pub goes_on : (text : List ℕ) (before more : List (List ℕ)) (line : List ℕ) (rest : List (List ℕ)) → lines_of text ≡ before ++ rest → rest ≡ line ∷ more → lines_of text ≡ (before ++ line ∷ []) ++ more

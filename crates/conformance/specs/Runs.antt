@@ -1,12 +1,12 @@
 -- The runs that a case asks for, and what one of them leaves.
-use Rattle.std.specs.Prelude.{◌≡◌, ℕ, ◌⊎◌, List, [], ◌∷◌, ◌++◌, map, take, codes, Option, Some, None, if◌then◌else◌}
-use Rattle.pl_io.specs.Named.{at_name}
-use Rattle.pl_session.specs.declared.ended.Ended.{Ended}
-use Rattle.pl_session.specs.Ends.{Ends, Raises, PrintsPart, WritesRefusal, journal_of}
-use Rattle.pl_session.specs.Lines as lines
-use Rattle.pl_session.specs.Words.{Command, command_of}
+use Rattle.std.specs.Prelude.{◌≡◌, ℕ, List, [], ◌∷◌, ◌++◌, map, codes, Option, Some, if◌then◌else◌}
+use Rattle.pl_io.specs.declared.mem_files.MemFiles.{MemFiles}
+use Rattle.pl_io.specs.declared.mem_sink.MemSink.{MemSink}
+use Rattle.pl_io.specs.Named.{at_name, content}
+use Rattle.pl_session.specs.Says.{Side, side, Says}
 use Rattle.pl_cases.specs.declared.cases.Case.{Case}
 use Rattle.pl_cases.specs.declared.cases.Given.{Given}
+use Rattle.pl_cases.specs.declared.cases.Limits.{Limits}
 use Rattle.conformance.specs.declared.compare.Seen.{Seen}
 use Rattle.conformance.specs.Choices.{choice_lines}
 
@@ -25,22 +25,26 @@ command_lines_of case = if case.with_all_workers then map (with_workers case.wor
 abbrev pub file_of : Given → List ℕ → Option (List ℕ)
 file_of given name = at_name given.names given.bytes name
 
--- a call of `top` with these words, over the case's files and two empty sinks, ended so and left this: what `top` promises of it
+-- files that have the bytes of the case's, of which the same calls are to fail, and none was made
+abbrev pub IsGiven : Given → MemFiles → Type 0
+IsGiven given files = ((name : List ℕ) → content files name ≡ file_of given name) × (files.fails.items ≡ given.fails) × (files.calls ≡ 0) × (files.faults ≡ 0)
+
+-- a sink of this room without bytes, of which the same calls are to fail, and none was made
+abbrev pub IsEmpty : Limits → MemSink → Type 0
+IsEmpty limits sink = (sink.bytes.items ≡ []) × (sink.room ≡ limits.room) × (sink.fails.items ≡ limits.fails) × (sink.calls ≡ 0) × (sink.faults ≡ 0)
+
+-- a call of `top` with these words, over the case's files, output and notes, ended and left this: each of its clauses holds
 pub record Leaves (case : Case) (words : List (List ℕ)) (seen : Seen) : Type 0 where
-  pub ended : Ended
-  pub status : seen.status ≡ ended.status.0
-  pub choices : seen.choices ≡ choice_lines ended.journal.entries
-  pub journal : ended.journal ≡ journal_of (command_of words) ended.journal.entries
-  -- the script is the bytes of the file that the words name, of too long a file the first ones
-  pub script : (command : Command) (bytes : List ℕ) → command_of words ≡ Some command → file_of case.given command.name ≡ Some bytes → (ended.status.0 ≡ 0) ⊎ (ended.status.0 ≡ 1) ⊎ (ended.status.0 ≡ 5) ⊎ (ended.status.0 ≡ 7) → ended.script ≡ take 1000001 bytes
-  -- its run ended, or raised an error
-  pub done : ended.status.0 ≡ 0 → Ends ended.script ended.journal.turns ended.journal.entries (Some []) (Some seen.out)
-  pub quiet : ended.status.0 ≡ 0 → seen.notes ≡ []
-  pub raised : ended.status.0 ≡ 1 → Raises ended.script ended.journal.turns ended.journal.entries (Some []) (Some seen.out) (Some []) (Some seen.notes)
-  -- the words are no command, the file can't be read, or the source is refused
-  pub usage : ended.status.0 ≡ 2 → (command_of words ≡ None) × (seen.notes ≡ lines.usage_line)
-  pub unread : (command : Command) → command_of words ≡ Some command → ended.status.0 ≡ 3 → seen.notes ≡ lines.cannot_read_line command.name
-  pub refused : (ended.status.0 ≡ 5) ⊎ (ended.status.0 ≡ 7) → WritesRefusal ended.script ended.status.0 (Some []) (Some seen.notes)
-  pub silent : (ended.status.0 ≡ 2) ⊎ (ended.status.0 ≡ 3) ⊎ (ended.status.0 ≡ 5) ⊎ (ended.status.0 ≡ 7) → seen.out ≡ []
-  -- a write failed, or memory was wanting: what was written is a beginning
-  pub part : (ended.status.0 ≡ 4) ⊎ (ended.status.0 ≡ 9) → PrintsPart ended.script ended.journal.turns ended.journal.entries (Some []) (Some seen.out)
+  pub files : Side MemFiles (List ℕ → Option (List ℕ))
+  pub out : Side MemSink (Option (List ℕ))
+  pub notes : Side MemSink (Option (List ℕ))
+  pub files_are : files ≡ side content (λ f. f.faults) files.old files.new
+  pub out_is : out ≡ side (λ s. Some s.bytes.items) (λ s. s.faults) out.old out.new
+  pub notes_are : notes ≡ side (λ s. Some s.bytes.items) (λ s. s.faults) notes.old notes.new
+  pub given : IsGiven case.given files.old
+  pub empty_out : IsEmpty case.out out.old
+  pub empty_notes : IsEmpty case.notes notes.old
+  pub says : Says words files out notes seen.status
+  pub out_left : seen.out ≡ out.new.bytes.items
+  pub notes_left : seen.notes ≡ notes.new.bytes.items
+  pub choices : seen.choices ≡ choice_lines says.ended.journal.entries

@@ -5,8 +5,9 @@ ghost use Rattle.std.specs.List.{AllZip};
 ghost use Rattle.std.specs.Process.{exit_status};
 ghost use Rattle.conformance.specs.Judged.{IsRunJudged, IsJudged, IsRead, AreJudged, IsFileJudged, joined, tallied, IsSuccess};
 
-use crate::compare::{self, Seen, Verdict};
+use crate::compare::{Seen, Verdict, judge};
 use crate::contents::Contents;
+use crate::difference::first_difference;
 use crate::run;
 use anyhow::Result;
 use pl_base::{NoMemory, Or, Word};
@@ -175,7 +176,7 @@ fn run_with<R: AllocGlobal + Print + Threads + Wait + Sync>(
     ensures { IfOk result (λ passed. IsRunJudged case.now words.now passed) }
 {
     let seen = run::run(rt, rt.alloc(), case, words)?;
-    let verdict = compare::judge(&case.wanted, &seen);
+    let verdict = judge(&case.wanted, &seen);
     if matches!(verdict, Verdict::Passed) {
         return Ok(true);
     }
@@ -232,7 +233,7 @@ fn print_difference(rt: &impl Print, name: &str, wanted: &[u8], got: &[u8]) -> i
     if wanted == got {
         return Ok(());
     }
-    let difference = difference::first_difference(wanted, got);
+    let difference = first_difference(wanted, got);
     print!(rt; "  {name}, line {}: wanted ", difference.line)?;
     print_line(rt, difference.wanted)?;
     print!(rt; ", got ")?;

@@ -1,8 +1,7 @@
 //! Runs one case, over files and sinks in memory.
 
-ghost use Rattle.std.specs.Prelude.{◌≡◌, [], map, ℕ, List, IfOk};
-ghost use Rattle.pl_io.specs.Named.{content};
-ghost use Rattle.conformance.specs.Runs.{command_lines_of, with_workers as added_to, file_of, Leaves};
+ghost use Rattle.std.specs.Prelude.{◌≡◌, map, IfOk};
+ghost use Rattle.conformance.specs.Runs.{command_lines_of, with_workers as added_to, IsGiven, IsEmpty, Leaves};
 
 use crate::choices;
 use crate::compare::Seen;
@@ -64,7 +63,7 @@ pub fn command_lines(alloc: Global, case: &Case) -> Result<Vec<Vec<Word>>, NoMem
 }
 
 fn sink(alloc: Global, limits: &Limits) -> Result<MemSink, NoMemory>
-    ensures { IfOk result (λ sink. sink.bytes.items ≡ []) }
+    ensures { IfOk result (λ sink. IsEmpty limits.now sink) }
 {
     let fails = Vec::from_slice(alloc, limits.fails.items())?;
     MemSink::new(alloc, limits.room, fails)
@@ -72,7 +71,7 @@ fn sink(alloc: Global, limits: &Limits) -> Result<MemSink, NoMemory>
 
 /// The files of a case.
 fn files(alloc: Global, given: &Given) -> Result<MemFiles, NoMemory>
-    ensures { IfOk result (λ files. (name : List ℕ) → content files name ≡ file_of given.now name) }
+    ensures { IfOk result (λ files. IsGiven given.now files) }
 {
     Ok(MemFiles::new(
         copies(alloc, given.names.items())?,

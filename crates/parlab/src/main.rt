@@ -6,7 +6,7 @@
 #![tactic(auto)]
 
 ghost use Rattle.std.specs.Process.{exit_status};
-ghost use Rattle.parlab.specs.Carried.{Says, side};
+ghost use Rattle.pl_session.specs.Says.{Says, side};
 
 use pl_base::{Free, NoMemory, Text, Word};
 use pl_io::{Files, RealFiles, RealSink, Sink};

@@ -1,5 +1,5 @@
 -- What is said of a case, section by section, and the case that it makes.
-use Rattle.std.specs.Prelude.{ℕ, true, false, if◌then◌else◌, Option, Some, None, unwrap_or, Result, Ok, Err, List, [], ◌∷◌, ◌++◌}
+use Rattle.std.specs.Prelude.{ℕ, Bool, true, false, if◌then◌else◌, Option, Some, None, unwrap_or, Result, Ok, Err, List, [], ◌∷◌, ◌++◌}
 use Rattle.std.specs.List.{list_any}
 use Rattle.pl_cases.specs.declared.cases.Limits.{Limits}
 use Rattle.pl_cases.specs.declared.cases.Wanted.{Wanted}
@@ -67,6 +67,10 @@ with_fail d call object.Files = Ok (record d { given = record { names = d.given.
 with_fail d call object.Out = Ok (record d { out_fails = d.out_fails ++ call ∷ [] })
 with_fail d call object.Notes = Ok (record d { notes_fails = d.notes_fails ++ call ∷ [] })
 
+abbrev pub with_all : Draft → Bool → Result Draft Reason
+with_all d false = Ok (record d { with_all_workers = true })
+with_all d true = Err reason.Twice
+
 -- what was said and a mark with its text
 abbrev pub said_by_mark : Draft → List ℕ → Mark → Result Draft Reason
 said_by_mark d text (mark.File name) = with_file d name text
@@ -78,7 +82,7 @@ said_by_mark d text (mark.Status n) = once d.status n >>= λ status. Ok (record 
 said_by_mark d text (mark.Fail o call) = with_fail d call o
 said_by_mark d text (mark.OutRoom n) = once d.out_room n >>= λ room. Ok (record d { out_room = room })
 said_by_mark d text (mark.NotesRoom n) = once d.notes_room n >>= λ room. Ok (record d { notes_room = room })
-said_by_mark d text mark.AllWorkers = Ok (record d { with_all_workers = true })
+said_by_mark d text mark.AllWorkers = with_all d d.with_all_workers
 
 -- what was said and a section with its text; one that begins a case says nothing of this one
 abbrev pub said : Draft → List ℕ → Head → Result Draft Reason

@@ -30,7 +30,7 @@ begun_outside (c ∷ cs) =
     if c == 36 then Ok (Some (head.Command (command_of cs))) else
     if c == 35 then Ok None else Err reason.NoBlock
 
--- what a line begins, if anything: a case or a mark, wherever it stands; else the line belongs to the text that it stands in
+-- what a line begins, if anything: a case or a mark, also in a text; else the line belongs to the text that it stands in
 abbrev pub begun : Bool → List ℕ → Result (Option Head) Reason
 begun in_text line =
     if begins (codes "===") line then Ok (Some (head.Case (trimmed (drop 3 line)))) else

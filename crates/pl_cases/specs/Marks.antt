@@ -21,7 +21,7 @@ of_one word =
 -- journals are refused until they are built
 abbrev pub of_two : List ℕ → List ℕ → Result Mark Reason
 of_two word value =
-    if same (codes "status") word then number_of 255 value >>= (λ n. Ok (mark.Status n)) else
+    if same (codes "status") word then number_of 0 255 value >>= (λ n. Ok (mark.Status n)) else
     if same (codes "journal") word then Err reason.NotBuilt else Err reason.UnknownMark
 
 abbrev pub object_of : List ℕ → Result Object Reason
@@ -30,15 +30,15 @@ object_of word =
     if same (codes "out") word then Ok object.Out else
     if same (codes "notes") word then Ok object.Notes else Err reason.UnknownMark
 
--- the call of a number fails
+-- the call of a number, from 1, fails
 abbrev pub fail : List ℕ → List ℕ → Result Mark Reason
-fail word value = object_of word >>= λ o. number_of (2 ^ 64 - 1) value >>= λ n. Ok (mark.Fail o n)
+fail word value = object_of word >>= λ o. number_of 1 (2 ^ 64 - 1) value >>= λ n. Ok (mark.Fail o n)
 
 -- a sink has room for so many bytes
 abbrev pub room : List ℕ → List ℕ → Result Mark Reason
 room word value =
-    if same (codes "out") word then number_of (2 ^ 32 - 1) value >>= (λ n. Ok (mark.OutRoom n)) else
-    if same (codes "notes") word then number_of (2 ^ 32 - 1) value >>= (λ n. Ok (mark.NotesRoom n)) else Err reason.UnknownMark
+    if same (codes "out") word then number_of 0 (2 ^ 32 - 1) value >>= (λ n. Ok (mark.OutRoom n)) else
+    if same (codes "notes") word then number_of 0 (2 ^ 32 - 1) value >>= (λ n. Ok (mark.NotesRoom n)) else Err reason.UnknownMark
 
 abbrev pub of_three : List ℕ → List ℕ → List ℕ → Result Mark Reason
 of_three word object value =

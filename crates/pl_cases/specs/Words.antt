@@ -27,6 +27,6 @@ word_of written = if same (codes "''") written then [] else written
 abbrev pub command_of : List ℕ → List (List ℕ)
 command_of line = map word_of (words_of line)
 
--- a number of at most this size, and nothing else
-abbrev pub number_of : ℕ → List ℕ → Result ℕ Reason
-number_of most word = ok_or (number_within most word) reason.BadNumber
+-- a number of this range, and nothing else
+abbrev pub number_of : ℕ → ℕ → List ℕ → Result ℕ Reason
+number_of least most word = ok_or (number_within least most word) reason.BadNumber

@@ -97,10 +97,10 @@ pub fn trimmed(line: &[u8]) -> &[u8]
     line.trim_ascii()
 }
 
-/// A number of at most this size, in decimal.
-pub fn number(word: &[u8], most: u64) -> Result<u64, Reason>
-    ensures value { result ≡ spec.number_of most word.now }
+/// A number of this range, in decimal.
+pub fn number(least: u64, most: u64, word: &[u8]) -> Result<u64, Reason>
+    ensures value { result ≡ spec.number_of least most word.now }
     ensures within { IfOk result (λ n. n ≤ most) }
 {
-    number_within(most, word).ok_or(Reason::BadNumber)
+    number_within(least, most, word).ok_or(Reason::BadNumber)
 }

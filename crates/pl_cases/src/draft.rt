@@ -101,11 +101,18 @@ impl Draft {
             Mark::Fail(object, call) => self.add_fail(*object, *call),
             Mark::OutRoom(room) => once(&mut self.out_room, *room),
             Mark::NotesRoom(room) => once(&mut self.notes_room, *room),
-            Mark::AllWorkers => {
-                self.with_all_workers = true;
-                Ok(())
-            }
+            Mark::AllWorkers => self.add_all_workers(),
         }
+    }
+
+    fn add_all_workers(&mut self) -> Result<(), Or<Reason>>
+        ensures { Leaves result self.new (spec.with_all self.old self.old.with_all_workers) }
+    {
+        if self.with_all_workers {
+            return Err(Or::Is(Reason::Twice));
+        }
+        self.with_all_workers = true;
+        Ok(())
     }
 
     fn add_file(&mut self, name: Text, bytes: Text) -> Result<(), Or<Reason>>

@@ -77,12 +77,12 @@ impl Mark {
         Err(Reason::UnknownMark)
     }
 
-    /// But for a file.
+    /// The mark of a word and its value, where it is no file.
     fn of_two(word: &[u8], value: &[u8]) -> Result<Mark, Reason>
         ensures { result ≡ spec.of_two word.now value.now }
     {
         if same(b"status", word) {
-            return Ok(Mark::Status(number(value, 255)? as u8));
+            return Ok(Mark::Status(number(0, 255, value)? as u8));
         }
         if same(b"journal", word) {
             return Err(Reason::NotBuilt);
@@ -106,17 +106,17 @@ impl Mark {
         ensures { result ≡ spec.fail object.now value.now }
     {
         let object = Object::of_word(object)?;
-        Ok(Mark::Fail(object, number(value, u64::MAX)?))
+        Ok(Mark::Fail(object, number(1, u64::MAX, value)?))
     }
 
     fn room(object: &[u8], value: &[u8]) -> Result<Mark, Reason>
         ensures { result ≡ spec.room object.now value.now }
     {
         if same(b"out", object) {
-            return Ok(Mark::OutRoom(number(value, 4_294_967_295)? as u32));
+            return Ok(Mark::OutRoom(number(0, 4_294_967_295, value)? as u32));
         }
         if same(b"notes", object) {
-            return Ok(Mark::NotesRoom(number(value, 4_294_967_295)? as u32));
+            return Ok(Mark::NotesRoom(number(0, 4_294_967_295, value)? as u32));
         }
         Err(Reason::UnknownMark)
     }

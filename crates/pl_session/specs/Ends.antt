@@ -14,7 +14,7 @@ use Rattle.pl_source.specs.Sources.{Ready, Refuses}
 use Rattle.pl_session.specs.declared.ended.Journal.{Journal}
 use Rattle.pl_session.specs.Lines.{too_long_line, cannot_read_line}
 use Rattle.pl_session.specs.Printing.{run_of}
-use Rattle.pl_session.specs.Words.{Command}
+use Rattle.pl_session.specs.Words.{Command, default_workers, default_turns}
 
 -- the script can be run, and this is its run under these choices
 abbrev pub Runs : List ℕ → ℕ → List Choice → Outcome → Type 0
@@ -66,11 +66,12 @@ IsLine script turns choices line =
 abbrev pub NotesPart : List ℕ → ℕ → List Choice → Option (List ℕ) → Option (List ℕ) → Type 0
 NotesPart script turns choices old new = (old ≡ new) ⊎ ((line : List ℕ) × IsLine script turns choices line × AppendsPrefix old new line)
 
--- or by the first bytes of the line of a file of this name that can't be read, and the count of faults of the files, before and now, rose
+-- the notes grew so, or by the first bytes of the line of a file of this name that can't be read, and then the count of faults of
+-- the files, before and now, rose
 abbrev pub LinePart : List ℕ → List ℕ → ℕ → List Choice → Option (List ℕ) → Option (List ℕ) → ℕ → ℕ → Type 0
 LinePart name script turns choices old new before now = NotesPart script turns choices old new ⊎ (AppendsPrefix old new (cannot_read_line name) × Rose before now)
 
--- choices under the command's limits
+-- choices under the limits of the command, or those that hold where the words are none
 abbrev pub journal_of : Option Command → List Choice → Journal
-journal_of None choices = record { version = 1; workers = 4; turns = 100000000; entries = choices }
+journal_of None choices = record { version = 1; workers = default_workers; turns = default_turns; entries = choices }
 journal_of (Some c) choices = record { version = 1; workers = c.workers; turns = c.turns; entries = choices }

@@ -4,3 +4,4 @@ pub mod Levels
 pub mod Told
 pub mod Printing
 pub mod Ends
+pub mod Says

@@ -8,12 +8,9 @@ abbrev pub is_name : List ℕ → Bool
 is_name [] = false
 is_name (c ∷ cs) = not (c == 45)
 
-abbrev pub at_least : ℕ → ℕ → Option ℕ
-at_least least n = if nat_le least n then Some n else None
-
 -- a number in a range, of at most ten digits
 abbrev pub number_of : ℕ → ℕ → List ℕ → Option ℕ
-number_of least most word = if nat_le (length word) 10 then option_and_then (at_least least) (number_within most word) else None
+number_of least most word = if nat_le (length word) 10 then number_within least most word else None
 
 -- an option stands once at most
 abbrev pub with_workers : Options → Option ℕ → List ℕ → Option Options
@@ -44,8 +41,15 @@ pub record Command : Type 0 where
   pub workers : ℕ
   pub turns : ℕ
 
+-- what holds where nothing is said
+abbrev pub default_workers : ℕ
+default_workers = 4
+
+abbrev pub default_turns : ℕ
+default_turns = 100000000
+
 abbrev pub command_with : List ℕ → Options → Command
-command_with name o = record { name = name; workers = unwrap_or o.workers 4; turns = unwrap_or o.turns 100000000 }
+command_with name o = record { name = name; workers = unwrap_or o.workers default_workers; turns = unwrap_or o.turns default_turns }
 
 -- the command that the words are, `run FILE` with its options; none where they are anything else
 abbrev pub command_of : List (List ℕ) → Option Command

@@ -14,7 +14,7 @@ use pl_resolve::Resolved;
 use pl_values::Env;
 use std::alloc::Global;
 
-/// The most levels of calls of a run.
+/// The most levels of a run: of calls, operators, brackets, ranges and statements.
 pub(crate) const DEPTH: u32 = 1_000;
 
 /// A world that writes to a sink, and answers a program's loops, whose activities have so many turns each. It stops

@@ -4,8 +4,8 @@ ghost use Rattle.std.specs.Prelude.{◌≡◌};
 
 use pl_base::{Choice, Seq};
 
-/// The exit status: 0 the script ended, 1 it raised an error, 2 usage, 3 a read fault, 4 a write fault, 5 no
-/// program, 7 an unknown name, 9 want of memory.
+/// The exit status: 0 the script ended, 1 it raised an error, 2 usage, 3 a read fault, 4 a write fault, 5 too long,
+/// no program or not built, 7 an unknown name, 9 want of memory.
 #[derive(Clone, Copy, Debug, PartialEq, Eq)]
 pub struct Status(pub u8);
 

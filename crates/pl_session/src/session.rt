@@ -80,8 +80,8 @@ fn run_file<F: Files, K: Sink, N: Sink>(
 /// start threads, and `gate` is to be told of each job; nothing that is built so far does either.
 ///
 /// The status is 0 where the script ended, 1 where it raised an error, 2 where the words are no command, 3 where
-/// the file can't be read, 4 where a write failed, 5 where the source is no program or uses what isn't built, 7
-/// where a name of it stands for nothing, 9 where memory was wanting.
+/// the file can't be read, 4 where a write failed, 5 where the source is too long, is no program or uses what isn't
+/// built, 7 where a name of it stands for nothing, 9 where memory was wanting.
 pub fn top<F: Files, K: Sink, N: Sink, G: Gate, R: Threads + Wait + Sync>(
     _rt: &R,
     alloc: Global,
@@ -100,7 +100,7 @@ pub fn top<F: Files, K: Sink, N: Sink, G: Gate, R: Threads + Wait + Sync>(
     // Status 1: the script's run raises an error. What it prints before was written, and the error's line to the notes.
     ensures raised { result.status.0 ≡ 1 → Raises result.script result.journal.turns result.journal.entries (K.written out.old) (K.written out.new) (N.written notes.old) (N.written notes.new) }
 
-    // Status 2: exactly where the words aren't `run FILE` with its options; no file and no output is touched.
+    // Status 2: exactly where the words aren't `run FILE` with its options, unless a write failed; no file and no output is touched.
     ensures usage { command_in words.now ≡ None → (result.status.0 ≡ 2) ⊎ (result.status.0 ≡ 4) }
     ensures only_usage { result.status.0 ≡ 2 → command_in words.now ≡ None }
     ensures usage_line { result.status.0 ≡ 2 → Appends (N.written notes.old) (N.written notes.new) usage_line }
@@ -125,8 +125,8 @@ pub fn top<F: Files, K: Sink, N: Sink, G: Gate, R: Threads + Wait + Sync>(
     ensures usage_part { command_in words.now ≡ None → result.status.0 ≡ 4 → AppendsPrefix (N.written notes.old) (N.written notes.new) usage_line }
     ensures notes_part { (command : Order) → command_in words.now ≡ Some command → (result.status.0 ≡ 4) ⊎ (result.status.0 ≡ 9) → LinePart command.name result.script result.journal.turns result.journal.entries (N.written notes.old) (N.written notes.new) (F.faults files.old) (F.faults files.new) }
 
-    // A call stops at its first write fault: behind one on the output nothing goes to the notes; where only the notes failed,
-    // the output has all that the script prints, or the script wasn't run. Where memory was wanting the notes are as they were.
+    // What a write fault leaves: behind one on the output nothing goes to the notes; where only the notes failed, the output has
+    // all that the script prints, or the script wasn't run. Where memory was wanting the notes are as they were.
     ensures stopped { K.faults out.old < K.faults out.new → notes.new ≡ notes.old }
     ensures memory { result.status.0 ≡ 9 → notes.new ≡ notes.old }
     ensures said { (command : Order) → command_in words.now ≡ Some command → result.status.0 ≡ 4 → Rose (K.faults out.old) (K.faults out.new) ⊎ SaysAll result.script result.journal.turns result.journal.entries (K.written out.old) (K.written out.new) ⊎ ((out.new ≡ out.old) × (IsUnrun result.script ⊎ Rose (F.faults files.old) (F.faults files.new))) }

@@ -3,6 +3,7 @@
 ghost use Rattle.std.specs.Prelude.{◌≡◌, ◌≤◌, Some, None, IfSome, MatchOption};
 ghost use Rattle.pl_session.specs.Words as spec;
 
+use crate::ended::Limits;
 use pl_base::Word;
 use pl_words::{number_within, same};
 
@@ -47,8 +48,7 @@ fn number_of(least: u64, most: u64, word: &[u8]) -> Option<u64>
     if word.len() > MOST_DIGITS {
         return None;
     }
-    let number = number_within(most, word)?;
-    if least <= number { Some(number) } else { None }
+    number_within(least, most, word)
 }
 
 fn with_workers(options: Options, word: &[u8]) -> Option<Options>
@@ -117,7 +117,7 @@ pub fn command_of(words: &[Word]) -> Option<Command<'_>>
     let options = options_from(none, more)?;
     Some(Command {
         name: name.bytes(),
-        workers: options.workers.unwrap_or(4),
-        turns: options.turns.unwrap_or(100_000_000),
+        workers: options.workers.unwrap_or(Limits::DEFAULT.workers),
+        turns: options.turns.unwrap_or(Limits::DEFAULT.turns),
     })
 }

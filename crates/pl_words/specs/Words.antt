@@ -1,4 +1,4 @@
--- What words are: the same bytes, and numbers in decimal.
+-- When two words are the same, and which number a word writes in decimal.
 use Rattle.std.specs.Prelude.{ℕ, ◌+◌, ◌-◌, ◌*◌, nat_le, Bool, true, false, not, ◌&&◌, if◌then◌else◌, Option, Some, None, List, [], ◌∷◌, nat_eq}
 use Rattle.std.specs.List.{list_all}
 use Rattle.std.specs.Cmp.Lexicographic.{pointwise}
@@ -25,9 +25,9 @@ abbrev pub number_onto : ℕ → List ℕ → ℕ
 number_onto n [] = n
 number_onto n (c ∷ cs) = number_onto (digit_onto n c) cs
 
-abbrev pub at_most : ℕ → ℕ → Option ℕ
-at_most most n = if nat_le n most then Some n else None
+abbrev pub within : ℕ → ℕ → ℕ → Option ℕ
+within least most n = if nat_le least n && nat_le n most then Some n else None
 
--- the number of a word, where it is one of at most this size
-abbrev pub number_within : ℕ → List ℕ → Option ℕ
-number_within most word = if is_number word then at_most most (number_onto 0 word) else None
+-- the number that a word writes, where it writes one of this range
+abbrev pub number_within : ℕ → ℕ → List ℕ → Option ℕ
+number_within least most word = if is_number word then within least most (number_onto 0 word) else None

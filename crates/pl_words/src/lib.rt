@@ -52,16 +52,16 @@ fn digits(word: &[u8]) -> Option<u64>
     Some(number)
 }
 
-/// The number that the word writes in decimal, where it is one and at most `most`.
-pub fn number_within(most: u64, word: &[u8]) -> Option<u64>
-    ensures value { result ≡ spec.number_within most word.now }
+/// The number that the word writes in decimal, where it writes one of this range: one digit or more, and nothing else.
+pub fn number_within(least: u64, most: u64, word: &[u8]) -> Option<u64>
+    ensures value { result ≡ spec.number_within least most word.now }
     ensures within { IfSome result (λ n. n ≤ most) }
 {
     if word.is_empty() || !are_digits(word) {
         return None;
     }
     match digits(word) {
-        Some(number) if number <= most => Some(number),
+        Some(number) if least <= number && number <= most => Some(number),
         _ => None,
     }
 }

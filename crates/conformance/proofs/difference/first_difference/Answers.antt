@@ -75,8 +75,9 @@ returns-clause-got c =
 pub loop-wanted_line-preserved : goal.loop-wanted_line-preserved
 loop-wanted_line-preserved c =
     let alike : c.in-Some.wanted_line.now ≡ c.in-Some-split_line.got_line.now = same_text c.in-Some.wanted_line.now c.in-Some-split_line.got_line.now (sym c.if-not-same.false ∙ c.same.ensures) in
-    let is_got : lines_of c.loop-wanted_line.got_rest.now ≡ c.in-Some.wanted_line.now ∷ lines_of c.in-Some-split_line.got_more.now = c.in-Some-split_line.ensures.0 ∙ ap (λ (line : List ℕ). line ∷ lines_of c.in-Some-split_line.got_more.now) (sym alike) in
-    (c.loop-wanted_line.invariant.0 ++ c.in-Some.wanted_line.now ∷ []
-    , goes_on c.args.wanted.now c.loop-wanted_line.invariant.0 (lines_of c.in-Some.wanted_more.now) c.in-Some.wanted_line.now (lines_of c.loop-wanted_line.wanted_rest.now) c.loop-wanted_line.invariant.1 c.in-Some.ensures.0
-    , goes_on c.args.got.now c.loop-wanted_line.invariant.0 (lines_of c.in-Some-split_line.got_more.now) c.in-Some.wanted_line.now (lines_of c.loop-wanted_line.got_rest.now) c.loop-wanted_line.invariant.2 is_got
-    , counts_on c.loop-wanted_line.invariant.0 c.in-Some.wanted_line.now c.loop-wanted_line.line c.saturating_add-line.result c.loop-wanted_line.invariant.3 c.saturating_add-line.ensures)
+    let is_got : lines_of c.loop-wanted_line.got_rest.now ≡ c.in-Some.wanted_line.now ∷ lines_of c.in-Some-split_line.got_more.now = c.in-Some-split_line.ensures.0 ∙ ap (λ (line : List ℕ). line ∷ lines_of c.in-Some-split_line.got_more.now) (sym alike) in (
+      c.loop-wanted_line.invariant.0 ++ c.in-Some.wanted_line.now ∷ [],
+      goes_on c.args.wanted.now c.loop-wanted_line.invariant.0 (lines_of c.in-Some.wanted_more.now) c.in-Some.wanted_line.now (lines_of c.loop-wanted_line.wanted_rest.now) c.loop-wanted_line.invariant.1 c.in-Some.ensures.0,
+      goes_on c.args.got.now c.loop-wanted_line.invariant.0 (lines_of c.in-Some-split_line.got_more.now) c.in-Some.wanted_line.now (lines_of c.loop-wanted_line.got_rest.now) c.loop-wanted_line.invariant.2 is_got,
+      counts_on c.loop-wanted_line.invariant.0 c.in-Some.wanted_line.now c.loop-wanted_line.line c.saturating_add-line.result c.loop-wanted_line.invariant.3 c.saturating_add-line.ensures,
+    )
