@@ -1,5 +1,5 @@
 -- How cases are judged, and what is counted of it.
-use Rattle.std.specs.Prelude.{◌≡◌, ◌<◌, Bool, true, false, Ok, Err, List, [], ◌∷◌, ◌++◌, length, All, Contains}
+use Rattle.std.specs.Prelude.{◌≡◌, ℕ, ◌<◌, Bool, true, false, Ok, Err, List, [], ◌∷◌, ◌++◌, length, All, Contains}
 use Rattle.std.specs.List.{AllZip}
 use Rattle.pl_io.specs.Counted.{counted}
 use Rattle.pl_cases.specs.declared.cases.Case.{Case}

@@ -1,4 +1,4 @@
-use Rattle.std.proofs.Common.{◌≡◌, ℕ, List, map, ap, ◌∙◌}
+use Rattle.std.proofs.Common.{ℕ, List, map, ap, ◌∙◌}
 use Rattle.pl_io.specs.Named.{at_name}
 use Rattle.pl_io.specs.declared.mem_files.MemFiles.{MemFiles}
 use Rattle.conformance.proofs.Named.{at_name_map}
